@@ -7,11 +7,13 @@ the gate: it takes some twenty minutes, since the machine's processor is emulate
 usage: bench/package.py build FOLDER                     makes what is booted, of Debian's packages (root, the network)
        bench/package.py run FOLDER PACKAGE [NEWER]       boots it and tries; where no newer package is given, PACKAGE is packed
                                                          again as one. Status 1 where a line begins with FAILED
+       bench/package.py only NAME,.. FOLDER PACKAGE      the same, and no trials but these (three_commands has to be the first)
 
 What it wants of Debian's packages says bench/package_machine.py.
 """
 
 import os
+import random
 import re
 import shutil
 import subprocess
@@ -19,12 +21,12 @@ import sys
 import tempfile
 import time
 
+from free_port import is_free
 from initiator import Closed, Refused, Session
 from package_host import Host
 from package_machine import Machine, build
 from running import TARGET
 
-PORT = 26200
 APT = "DEBIAN_FRONTEND=noninteractive apt-get -y -q -o Dpkg::Options::=--force-confold"
 CONSOLE = "/usr/libexec/arrayd/arrayd-console /run/arrayd/one"
 STATUS = "/usr/libexec/arrayd/arrayd-status /run/arrayd/one"
@@ -62,6 +64,13 @@ def repacked(package, place):
     subprocess.run(["dpkg-deb", "--root-owner-group", "-b", root, newer], check=True, stdout=subprocess.DEVNULL)
 
 
+def tell_program(package):
+    """Says of which program a package was made: package.sh marks one that was not proved."""
+    words = ["dpkg-deb", "-f", package, "Version"]
+    version = subprocess.run(words, check=True, stdout=subprocess.PIPE, text=True).stdout.strip()
+    print(f"package {version}, of a program that was {'not ' if '~unproved' in version else ''}proved", flush=True)
+
+
 def field(machine, name, unit="arrayd@one"):
     return machine.run(f"systemctl show -P {name} {unit}")[1]
 
@@ -75,7 +84,7 @@ def session(machine, controller=1, timeout=60):
 def three_commands(machine):
     status, said = machine.run("command -v arrayd; getent passwd arrayd; ls -d /etc/arrayd /var/lib/arrayd /usr/libexec/arrayd")
     check("nothing of the array is there", status != 0 and "/arrayd\n" not in said.replace("cannot access", ""), said)
-    status, said, seconds = timed(machine, f"{APT} install /packages/first.deb")
+    status, said, seconds = timed(machine, f"cd /packages; {APT} install ./arrayd_*.deb")
     check("1. apt install", status == 0, said)
     told("it took", seconds)
     check("no array was started", machine.run("systemctl list-units --all --plain --no-legend 'arrayd@*'")[1] == "", "")
@@ -170,7 +179,7 @@ def missing(machine):
     machine.run("printf '%s\\n' 'OPTIONS=\"--host 10.0.2.15 --port 3280 --array 2\"' 'DISKS=\"unit0=/dev/nowhere\"' > /etc/arrayd/two.conf")
     began = time.monotonic()
     check("an array whose disk is not there does not start", machine.run("systemctl start arrayd@two")[0] != 0)
-    while field(machine, "ActiveState", "arrayd@two") != "failed" and time.monotonic() - began < 400:
+    while field(machine, "ActiveState", "arrayd@two") != "failed" and time.monotonic() - began < 1500:
         time.sleep(5)
     found = [field(machine, name, "arrayd@two") for name in ("ActiveState", "NRestarts")]
     check("it is tried again, and then failed", found == ["failed", "30"] or found[0] == "failed" and int(found[1]) >= 25, found)
@@ -178,6 +187,18 @@ def missing(machine):
     check("the journal says why", "there is no /dev/nowhere for unit0" in machine.run("journalctl --no-pager -u arrayd@two")[1])
     check("the other array was not touched", field(machine, "ActiveState") == "active")
     machine.run("rm /etc/arrayd/two.conf; systemctl reset-failed arrayd@two; rm -rf /var/lib/arrayd/two")
+
+
+def file_disk(machine):
+    """A disk that is a file, made by the lines of README."""
+    folder = "/var/lib/arrayd/three"
+    status, said = machine.run(f"set -e\ninstall -d -m 700 -o arrayd -g arrayd {folder}\ntruncate -s 1G {folder}/unit0\n"
+                               f"chown arrayd: {folder}/unit0\nprintf '%s\\n' 'OPTIONS=\"--host 10.0.2.15 --port 3290 --array 3\"' "
+                               "'DISKS=\"unit0\"' > /etc/arrayd/three.conf\nsystemctl start arrayd@three")
+    check("an array over a file that was made before starts", status == 0, said)
+    status, said = machine.run("/usr/libexec/arrayd/arrayd-console /run/arrayd/three status; arrayd-reg /var/lib/arrayd/three/unit0.reg")
+    check("its console and arrayd-reg tell of it", status == 0 and said.startswith("unit 0 ") and "unit0.reg: version" in said, said)
+    machine.run(f"systemctl stop arrayd@three; rm -rf {folder} /etc/arrayd/three.conf /var/log/arrayd/three")
 
 
 def rebooted(machine):
@@ -215,9 +236,18 @@ def removed(machine):
     check("and leaves the device to which a link led", machine.run("dd if=/dev/vdb bs=512 skip=7 count=1 status=none")[1] == "seen" * 128)
 
 
-def trials(machine):
+TRIALS = (three_commands, console, upgrade, filtered, missing, file_disk, rebooted, removed)
+
+
+def free_port():
+    """A port with which those of the second controller and of the shell are free too."""
+    tried = random.sample(range(20000, 30000, 16), 100)
+    return next(port for port in tried if all(is_free(port + at) for at in (0, 4, 8)))
+
+
+def trials(machine, chosen):
     machine.run("mkdir -p /packages; mount -o ro /dev/vdd /packages")
-    for trial in (three_commands, console, upgrade, filtered, missing, rebooted, removed):
+    for trial in chosen:
         print(trial.__name__.replace("_", " "), flush=True)
         if trial is removed:
             machine.run("mount -o ro /dev/vdd /packages")
@@ -228,18 +258,24 @@ def main(words):
     if words[:1] == ["build"] and len(words) == 2:
         build(os.path.abspath(words[1]))
         return 0
+    chosen = TRIALS
+    if words[:1] == ["only"] and len(words) == 4:
+        chosen = [trial for trial in TRIALS if trial.__name__ in words[1].split(",")]
+        words = ["run", *words[2:]]
     if words[:1] != ["run"] or len(words) not in (3, 4):
         sys.exit(__doc__)
+    for package in words[2:]:
+        tell_program(package)
     with tempfile.TemporaryDirectory() as place:
         os.mkdir(os.path.join(place, "packages"))
-        shutil.copy(words[2], os.path.join(place, "packages", "first.deb"))
+        shutil.copy(words[2], os.path.join(place, "packages", "arrayd_first.deb"))
         if len(words) == 4:
             shutil.copy(words[3], os.path.join(place, "packages", "newer.deb"))
         else:
             repacked(words[2], place)
-        with Machine(os.path.abspath(words[1]), place, os.path.join(place, "packages"), PORT) as machine:
+        with Machine(os.path.abspath(words[1]), place, os.path.join(place, "packages"), free_port()) as machine:
             told("the machine is up after", machine.wait())
-            trials(machine)
+            trials(machine, chosen)
     print(f"{len(failed)} failed")
     return 1 if failed else 0
 

@@ -130,7 +130,7 @@ class Machine:
         images.append((os.path.join(place, "packages.img"), "on"))
         run("mke2fs", "-q", "-t", "ext4", "-d", packages, images[-1][0], "64M")
         forwards = "".join(f",hostfwd=tcp:127.0.0.1:{port + at}-:{to}" for at, to in ((0, 3260), (4, 3264), (8, 2222)))
-        words = ["qemu-system-x86_64", "-accel", "tcg,thread=multi", "-cpu", "max", "-m", "1024", "-smp", "2", "-display", "none",
+        words = ["qemu-system-x86_64", "-accel", "tcg,thread=multi", "-cpu", "max", "-m", "1024", "-smp", "1", "-display", "none",
                  "-monitor", "none", "-serial", f"file:{self.said}", "-kernel", os.path.join(folder, "vmlinuz"),
                  "-initrd", os.path.join(folder, "initrd"), "-netdev", f"user,id=n{forwards}", "-device", "virtio-net-pci,netdev=n",
                  "-append", "console=ttyS0 rdinit=/init panic=5 loglevel=4 mitigations=off no_timer_check tsc=unstable"]

@@ -12,6 +12,7 @@ usage: bench/two_machines.py build FOLDER          makes what they boot, in FOLD
        bench/two_machines.py power FOLDER [N]      the same; a disk forgets all that was not flushed, or some of it. By
                                                    turns the dead machine comes back as the active one, the other one
                                                    takes over, or both are lost and both come back
+       bench/two_machines.py outage FOLDER [N]     a takeover and the way back, then both lose their power at once, N times
        bench/two_machines.py move FOLDER [N]       the active machine gives up in order, as for an upgrade, N times
        bench/two_machines.py wire_cut FOLDER       the wire is cut before the kill: has to find what is lost
        bench/two_machines.py local_registrations FOLDER
@@ -40,6 +41,8 @@ LENGTH = 24 << 20
 PLACE = "/usr/libexec/two_machines"
 # Of /proc/drbd, which is read without a program of its own: that would take much of an emulated processor.
 STATE = 'state=$(< /proc/drbd); state=${state#*cs:}; echo ${state%% C *}'
+# Whether a machine's disk says that it died while it was active, and has not been in sync since.
+CRASHED = "drbdadm get-gi array | sed 's/.*://'"
 WORKS, WORKS_ALONE = 12, 5
 began = time.monotonic()
 
@@ -121,7 +124,7 @@ class Pair:
         self.hosts.log_in(self.active.base)
         answered = time.monotonic() - killed
         alone, wrong = self.hosts.check()
-        return f"{told}, all hosts back {answered:.1f} s behind the kill; {alone} blocks whose value was flushed", wrong
+        return f"{told}, all hosts back {answered:.1f} s behind it; {alone} blocks whose value was flushed", wrong
 
     def comes_back(self):
         """The passive machine is switched on, and gets in sync while the hosts work on."""
@@ -184,6 +187,8 @@ def return_alone(pair, keeps):
 
 def both_lost(pair, keeps):
     """Both machines lose their power at once, and come back: the one that was active serves again."""
+    # else DRBD takes any of them as the source
+    pair.passive.wait(CRASHED, lambda told: told == "0", 120)
     told = works(pair, WORKS)
     killed = time.monotonic()
     pair.active.kill(keeps)
@@ -215,6 +220,14 @@ def power(pair, count):
     for number in range(count):
         say(f"round {number + 1}")
         ways[number % len(ways)](pair, "none" if number // len(ways) % 2 == 0 else "some")
+
+
+def outage(pair, count):
+    for number in range(count):
+        say(f"round {number + 1}")
+        keeps = "none" if number % 2 == 0 else "some"
+        takeover(pair, keeps)
+        both_lost(pair, keeps)
 
 
 def move(pair, count):
@@ -279,20 +292,20 @@ def local_registrations(pair, _):
         raise Wrong("blocks are lost too")
 
 
-WAYS = {"rounds": (rounds, 10), "power": (power, 10), "move": (move, 2), "wire_cut": (wire_cut, 1),
+WAYS = {"rounds": (rounds, 10), "power": (power, 10), "outage": (outage, 4), "move": (move, 2), "wire_cut": (wire_cut, 1),
         "local_registrations": (local_registrations, 1)}
 
 
 def boot(folder):
-    """Boots each machine of each kind once, all at the same time, and keeps what it then is."""
+    """Boots each machine of each kind once, two at the same time, and keeps what it then is."""
     def boot_one(run, name, kind):
         os.mkdir(run)
         Machine(name, kind, folder, run, Disk(os.path.join(run, "disk"), LENGTH)).boot()
         say(f"machine {name}, {kind}, has booted")
 
-    with tempfile.TemporaryDirectory(dir=folder) as run, concurrent.futures.ThreadPoolExecutor(4) as lanes:
+    with tempfile.TemporaryDirectory(dir=folder) as run, concurrent.futures.ThreadPoolExecutor(2) as lanes:
         booted = [lanes.submit(boot_one, os.path.join(run, kind + name), name, kind)
-                  for kind in ("plain", "systemd") for name in "ab"]
+                  for kind in ("systemd", "plain") for name in "ab"]
         for each in booted:
             each.result()
 

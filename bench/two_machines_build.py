@@ -3,6 +3,7 @@ Debian 12 for both of them, with DRBD, Corosync, Pacemaker and the array. It wan
 e2fsprogs, qemu-system-x86, qemu-utils; root; the network."""
 
 import os
+import re
 import shutil
 import subprocess
 import sys
@@ -10,6 +11,7 @@ import uuid
 
 from linux_host import mirror, run, take_kernel
 from running import ARRAYD, TOP
+from two_machines_plan import Root, as_cib, own_file
 
 # psmisc has the command fuser, without which Pacemaker's agent Filesystem says that it cannot run anywhere.
 PACKAGES = ("systemd-sysv", "dbus", "udev", "kmod", "iproute2", "util-linux", "procps", "psmisc", "e2fsprogs", "socat",
@@ -50,6 +52,10 @@ def build(folder):
     order = take_modules(folder, root)
     settle(root)
     settle_cluster(root)
+    # crmsh itself takes minutes on an emulated processor
+    cib = as_cib(Root(folder), own_file("cluster.crm"))
+    configuration = re.search("<configuration>.*</configuration>", cib, re.S)[0]
+    write(os.path.join(root, "usr", "libexec", "two_machines", "cluster.xml"), configuration)
     pack(folder, root, order)
 
 
@@ -98,9 +104,10 @@ def settle(root):
     """What makes of the system these two machines: the array and its service, and the files of bench/two_machines."""
     run("sh", os.path.join(TOP, "service", "install.sh"), os.path.abspath(ARRAYD), env={**os.environ, "DESTDIR": root})
     run("chroot", root, "systemd-sysusers")
-    for name in ("plain", "network", "shell", "begin", "activate", "deactivate", "fencing.res", "cluster.crm"):
+    for name in ("plain", "network", "shell", "begin", "activate", "deactivate", "fencing.res"):
         place(name, root, "usr/libexec/two_machines")
     place("array.res", root, "etc/drbd.d")
+    shutil.copy(os.path.join(GUEST, "quick.res"), os.path.join(root, "etc", "drbd.d", "common.res"))
     # else drbdadm waits for a network that is not there, to be counted
     write(os.path.join(root, "etc", "drbd.d", "global_common.conf"), "global { usage-count no; }\n")
     write(os.path.join(root, "etc", "hosts"), "127.0.0.1 localhost\n10.9.0.1 a\n10.9.0.2 b\n")

@@ -20,6 +20,8 @@ HOST = "127.0.0.1"
 CONTROLLER_1, CONTROLLER_2, SHELL, WIRE = 0, 4, 5, 6
 # What a step of a machine may take; its processor is emulated, and this machine may have much else to do.
 PATIENCE = 1200
+# How far its processor gives way to others.
+NICE = os.environ.get("MACHINES_NICE", "19")
 
 
 class Wrong(Exception):
@@ -115,7 +117,7 @@ class Machine:
         console = os.path.join(self.run, f"console.{self.name}.{next(self.starts)}")
         append = f"{self.kind} machine={self.name} console=ttyS0 panic=1 loglevel=4 mitigations=off no_timer_check"
         return [
-            "setpriv", "--pdeathsig", "KILL", "nice", "-n", "19", "qemu-system-x86_64",
+            "setpriv", "--pdeathsig", "KILL", "nice", "-n", NICE, "qemu-system-x86_64",
             "-accel", "tcg,thread=multi,tb-size=64", "-cpu", "max", "-smp", "1", "-m", "512",
             "-display", "none", "-monitor", "none", "-no-reboot", "-serial", f"file:{console}",
             "-kernel", os.path.join(self.folder, "vmlinuz"), "-initrd", os.path.join(self.folder, "initrd"),
@@ -160,7 +162,7 @@ class Machine:
         """Its processor time is what others leave, also where the system shares it by sessions."""
         try:
             with open(f"/proc/{self.process.pid}/autogroup", "w") as file:
-                file.write(os.environ.get("MACHINES_NICE", "19"))
+                file.write(NICE)
         except OSError:
             pass
 
@@ -200,11 +202,11 @@ class Machine:
 
     def wait_up(self):
         """Waits until it has begun with its disk: how long that took. Its random numbers are others than at its last
-        start, where it was what it is now."""
+        start, where it was what it is now, and its clock is right."""
         began = time.monotonic()
         self.wait_shell()
         seed = f"echo {os.urandom(64).hex()} > /dev/urandom; perl -e 'ioctl(STDIN, 0x5207, 0) || die' < /dev/urandom"
-        self.ask(f"{seed}\n{self.when_on}")
+        self.ask(f"{seed}\ndate -s @{time.time():.0f} > /dev/null\n{self.when_on}")
         return time.monotonic() - began
 
     def wait(self, script, is_wanted, seconds=PATIENCE):

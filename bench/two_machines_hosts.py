@@ -21,7 +21,7 @@ ISID = 0x400001370000
 MISCOMPARE = (0x0E, 0x1D, 0x00)
 LOST = (Closed, Refused, OSError)
 # A command that is not answered for so long ends with the connection: the machine is dead, and nobody may say so.
-SECONDS = 180
+SECONDS = 900
 
 
 def told(reply):
@@ -248,6 +248,8 @@ class Hosts:
         self.registrations = {unit: Registrations(unit in LASTING) for unit in UNITS}
         self.keys = itertools.count(0x100)
         self.is_over, self.threads = threading.Event(), []
+        # seconds behind each command, so that a slow machine has time for other things too
+        self.rest = 0
 
     def all(self):
         return [*self.nodes, self.fenced]
@@ -333,7 +335,7 @@ class Hosts:
 
     def work(self, node):
         try:
-            while not self.is_over.is_set():
+            while not self.is_over.wait(self.rest):
                 self.do(node)
         except LOST as lost:
             node.fault = lost

@@ -20,6 +20,8 @@ from running import TOP, Wrong
 
 PAGE, GUEST = os.path.join(TOP, "docs", "TWO_MACHINES.md"), os.path.join(TOP, "bench", "two_machines")
 PATH = "/usr/sbin:/usr/bin:/sbin:/bin"
+# Where the files of a trial lie in the system of the machines.
+TRIAL = "/run/arrayd-trial"
 EMPTY = """<cib crm_feature_set="3.15.1" validate-with="pacemaker-3.8" epoch="1" num_updates="0" admin_epoch="0"
 have-quorum="1" dc-uuid="1"><configuration><crm_config/><nodes><node id="1" uname="a"/><node id="2" uname="b"/></nodes>
 <resources/><constraints/></configuration><status/></cib>"""
@@ -54,14 +56,15 @@ class Root:
 
     def __init__(self, folder):
         self.root = os.path.join(folder, "root")
+        os.makedirs(self.root + TRIAL, exist_ok=True)
 
     def write(self, name, text):
-        with open(os.path.join(self.root, "tmp", name), "w", encoding="utf-8") as file:
+        with open(f"{self.root}{TRIAL}/{name}", "w", encoding="utf-8") as file:
             file.write(text)
-        return f"/tmp/{name}"
+        return f"{TRIAL}/{name}"
 
     def read(self, name):
-        with open(os.path.join(self.root, "tmp", name), encoding="utf-8") as file:
+        with open(f"{self.root}{TRIAL}/{name}", encoding="utf-8") as file:
             return file.read()
 
     def run(self, *words, **more):
@@ -77,7 +80,7 @@ class Root:
 
     def simulate(self, before, after, *words):
         """What the cluster would do, line by line."""
-        told = self.run("crm_simulate", "-x", f"/tmp/{before}", "-S", "-O", f"/tmp/{after}", *words)
+        told = self.run("crm_simulate", "-x", f"{TRIAL}/{before}", "-S", "-O", f"{TRIAL}/{after}", *words)
         return told.split("Executing Cluster Transition:")[1].split("Revised Cluster Status:")[0].splitlines()
 
 
@@ -115,14 +118,19 @@ def with_good(cib, names):
     return cib
 
 
-def plans(root, text):
-    """Goes over what the cluster would do with this configuration: which machine is the active one."""
+def as_cib(root, text):
+    """This configuration as Pacemaker keeps it."""
     root.write("cib.xml", EMPTY)
     words = root.write("cluster.crm", text)
-    told = root.run("crm", "-F", "configure", "load", "replace", words, CIB_file="/tmp/cib.xml")
+    told = root.run("crm", "-F", "configure", "load", "replace", words, CIB_file=f"{TRIAL}/cib.xml")
     if "syntax" in told.lower() or "commit forced" not in told and "ERROR" in told:
         raise Wrong(told)
-    root.write("both.xml", with_both(root.read("cib.xml")))
+    return root.read("cib.xml")
+
+
+def plans(root, text):
+    """Goes over what the cluster would do with this configuration: which machine is the active one."""
+    root.write("both.xml", with_both(as_cib(root, text)))
     root.simulate("both.xml", "started.xml")
     for name in "ab":
         # only this one's disk is good, so all of it has to be there

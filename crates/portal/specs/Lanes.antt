@@ -1,6 +1,6 @@
 -- Which threads serve at which desk.
 use Rattle.std.specs.Prelude.{◌≡◌, List, [], ◌∷◌, map}
-use Rattle.core.specs.declared.thread.PromisedHandle.{PromisedHandle}
+use Rattle.std.specs.declared.thread.PromisedHandle.{PromisedHandle}
 use Rattle.scsi_types.specs.declared.names.Group.{Group}
 use Rattle.portal.specs.declared.lanes.AtDesk.{AtDesk}
 
