@@ -62,9 +62,12 @@ class Registrations:
         """The key by which a path is registered, 0 where it is not."""
         return self.now.keys.get(host.nexus(by), 0)
 
-    def may_be(self):
-        """What may be there after a start."""
-        return [each.lasting() for each in (self.now, self.or_else) if each]
+    def may_be(self, has_ended):
+        """What may be there after a start, or where the array has not ended."""
+        known = [each for each in (self.now, self.or_else) if each]
+        if has_ended:
+            return [each.lasting() for each in known]
+        return [(each.aptpl, frozenset(each.keys.items()), each.kind, each.holder) for each in known]
 
     def found(self, record):
         """This is there after a start."""
@@ -366,11 +369,12 @@ class Hosts:
 
     # ---- what is there
 
-    def check(self):
-        """Looks at all that has to be there: how many blocks had one value that they could have, and what is wrong."""
+    def check(self, has_ended=True):
+        """Looks at all that has to be there, behind a start or where the array has not ended: how many blocks had one
+        value that they could have, and what is wrong."""
         wrong = []
         for unit in UNITS:
-            found, may = registrations_found(self.nodes[0].paths[0], unit), self.registrations[unit].may_be()
+            found, may = registrations_found(self.nodes[0].paths[0], unit), self.registrations[unit].may_be(has_ended)
             if found not in may:
                 wrong.append(f"unit {unit}: registered is {found}, and that may be {may}")
             self.registrations[unit].found(found)

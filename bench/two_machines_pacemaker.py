@@ -123,10 +123,10 @@ class Cluster(Pair):
         self.passive = next(machine for machine in self.machines.values() if machine is not found)
         say(f"machine {found.name} is active")
 
-    def hosts_come_back(self, lost):
+    def hosts_come_back(self, lost, has_ended=True):
         self.hosts.log_in(self.active.base, PATIENCE)
         answered = time.monotonic() - lost
-        alone, wrong = self.hosts.check()
+        alone, wrong = self.hosts.check(has_ended)
         must_be_whole(wrong)
         say(f"all hosts are back {answered:.0f} s behind it; {alone} blocks whose value was flushed: nothing is lost")
 
@@ -140,7 +140,7 @@ class Cluster(Pair):
         self.wait_in_sync()
         self.wait_online()
         self.hosts.stop()
-        _, wrong = self.hosts.check()
+        _, wrong = self.hosts.check(has_ended=False)
         must_be_whole(wrong)
         took = time.monotonic() - started
         say(f"machine {self.passive.name} was back and in sync {took:.0f} s after it was switched on; "
@@ -181,7 +181,7 @@ def cut(cluster):
     cluster.hosts.stop(is_lost=not was_active)
     cluster.see_active(dead)
     say(f"exactly one machine lives, {living[0]}, which was {'active' if was_active else 'passive'} before")
-    cluster.hosts_come_back(lost)
+    cluster.hosts_come_back(lost, has_ended=not was_active)
     cluster.wire.is_cut = False
     cluster.comes_back()
 
