@@ -8,7 +8,7 @@ use std::process::Abort;
 use std::rt::Files;
 use std::sync::atomic::{AtomicBool, AtomicU64, Ordering};
 use std::sync::{Arc, Wait};
-use std::thread::{Parker, Threads};
+use std::thread::Parker;
 use std::time::Clock;
 
 const PATH: &str = "lines";
@@ -57,28 +57,28 @@ fn wait<R: Wait>(rt: &R, seen: &Seen, count: u64) {
     }
 }
 
-// Tells a line that cannot be written, and one that can: what is written.
-fn written<R: Files<File = File> + Threads + Wait + Clock + Abort + Clone + Drop + Send + 'static>(
-    rt: &R,
-    alloc: Global,
-) -> String {
+// What a page and its test share at first.
+fn unseen(rt: &impl Abort, alloc: Global) -> Arc<Seen, Global> {
     let seen = Seen {
         is_there: AtomicBool::new(false),
         count: AtomicU64::new(0),
         bell: Parker::new(),
     };
-    let seen = Arc::new(alloc, seen).expect(rt, "memory");
-    let page = Late {
-        rt: rt.clone().expect(rt, "memory"),
-        seen: Arc::try_clone(&seen).expect(rt, "memory"),
-    };
-    let log = Log::new(alloc).expect(rt, "memory");
-    start::<R, Late<R>>(rt, alloc, &log, page).expect(rt, "a thread");
+    Arc::new(alloc, seen).expect(rt, "memory")
+}
+
+// Tells a line that cannot be written, and one that can: what is written.
+fn written<R: Files<File = File> + Wait + Clock + Abort>(
+    rt: &R,
+    alloc: Global,
+    log: &Log,
+    seen: &Seen,
+) -> String {
     log.tell(rt, &Event::Ready);
-    wait(rt, &seen, 2);
+    wait(rt, seen, 2);
     seen.is_there.store(true, Ordering::SeqCst);
     log.tell(rt, &Event::Stopping);
-    close(rt, &log);
+    close(rt, log);
     let file = File::open(rt, PATH).expect(rt, "lines");
     let text = io::read_to_string(alloc, file).expect(rt, "lines");
     fs::remove_file(rt, PATH).expect(rt, "lines");
@@ -87,7 +87,16 @@ fn written<R: Files<File = File> + Threads + Wait + Clock + Abort + Clone + Drop
 
 #[test]
 fn lines_that_were_lost_are_told(rt: HostRuntime) {
-    let text = written(&rt, rt.alloc());
+    let alloc = rt.alloc();
+    let seen = unseen(&rt, alloc);
+    let page = Late {
+        rt: rt.clone().expect(&rt, "memory"),
+        seen: Arc::try_clone(&seen).expect(&rt, "memory"),
+    };
+    let log = Log::new(alloc).expect(&rt, "memory");
+    // What threads may do is known here alone.
+    start::<HostRuntime, Late<HostRuntime>>(&rt, alloc, &log, page).expect(&rt, "a thread");
+    let text = written(&rt, alloc, &log, &seen);
     let mut events = text
         .lines()
         .map(|line| line.rsplit_once(" event=").unwrap_or(("", "")).1);
