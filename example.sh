@@ -1,7 +1,7 @@
 #!/bin/sh
 # The array's main job, as a user first meets it: makes a disk of 1 MiB in a temporary folder, starts the array on it with both
 # controllers' portals on the loopback, and does with it what a host does: finds it, logs in through both controllers, writes,
-# reads through the other one, compares, COMPARE AND WRITE, reserves, moves the unit. bench/first_steps.py says each step; then
+# reads through the other one, compares, COMPARE AND WRITE, reserves, moves the unit. trials/first_steps.py says each step; then
 # the array is told `status` and `quit`. Ends with status 1 where a step fails. Wants the toolchain's command rt, and python3.
 #
 #   ./example.sh             compiles the program, but proves nothing of it
@@ -46,22 +46,22 @@ make_program() {
 
 if [ "$*" = --proved ]; then
     echo 'proving arrayd and each crate that it stands on, unless that was done here over the same text'
-    make_program python3 bench/prove.py
+    make_program python3 tools/prove.py
     ARRAYD=./arrayd
     echo 'the proved program lies here as ./arrayd'
 else
     echo 'compiling arrayd: it runs unproved here (./example.sh --proved proves it first)'
-    make_program python3 bench/unproved.py program "$place/arrayd"
+    make_program python3 tools/unproved.py program "$place/arrayd"
     ARRAYD=$place/arrayd
 fi
-. bench/array.sh
+. trials/array.sh
 
 truncate -s 1M "$place/disk.img"
 echo 'a disk of 1 MiB is made'
-port=$(python3 bench/free_port.py)
+port=$(python3 trials/free_port.py)
 start_array "$place/lines" --port "$port" "$place/disk.img"
 echo "arrayd listens at 127.0.0.1: controller 1 at port $port, controller 2 at port $((port + 4))"
-python3 bench/first_steps.py 127.0.0.1 "$port"
+python3 trials/first_steps.py 127.0.0.1 "$port"
 tell_array status
 stop_array
 array_pid=

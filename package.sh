@@ -25,7 +25,7 @@ case $#,$1 in
     0,)
         program=./arrayd
         [ -f "$program" ] || refuse 'there is no proved program ./arrayd here: ./example.sh --proved makes it'
-        python3 bench/prove.py --look || refuse './arrayd was not proved over the text that lies here: ./example.sh --proved does it'
+        python3 tools/prove.py --look || refuse './arrayd was not proved over the text that lies here: ./example.sh --proved does it'
         [ -z "$(git status --porcelain --untracked-files=no)" ] || refuse 'the tree differs from its commit, whose date the package has'
         mark=
         ;;

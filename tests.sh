@@ -8,4 +8,4 @@ if ! command -v python3 > /dev/null; then
     echo 'tests.sh wants python3' >&2
     exit 1
 fi
-exec python3 "$(dirname "$0")/bench/unproved.py" tests "$@"
+exec python3 "$(dirname "$0")/tools/unproved.py" tests "$@"

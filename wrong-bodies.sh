@@ -1,8 +1,8 @@
 #!/bin/sh
 # Tries the wrong bodies that stand beside those of the gate: the edits crates/*/wrong-bodies/*.edit of each crate that is
-# named, or of all. The prover has to refuse each. bench/wrong_bodies.py says how they are tried.
+# named, or of all. The prover has to refuse each. tools/wrong_bodies.py says how they are tried.
 # Run it where the contracts of a crate change, and before a release.
 #
 #   ./wrong-bodies.sh            all crates
 #   ./wrong-bodies.sh session    one crate
-cd "$(dirname "$0")" && exec python3 bench/wrong_bodies.py "$@"
+cd "$(dirname "$0")" && exec python3 tools/wrong_bodies.py "$@"

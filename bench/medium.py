@@ -3,7 +3,7 @@
 bytes at the same places, all in one run of one program, each kind in turn. Prints the best time of each and how they
 compare; ends with status 1 where a medium call takes more than 1.2 times what the bare one takes.
 
-The program is bench/medium/main.txt, which bench/proved.py proves and builds.
+The program is bench/medium/main.txt, which tools/proved.py proves and builds.
 
 usage: bench/medium.py [--most RATIO]
 """
@@ -13,6 +13,7 @@ import os
 import sys
 import tempfile
 
+sys.path.append(f"{sys.path[0]}/../tools")
 import proved
 
 USES = ["block_file", "compare_write", "disk_files"]

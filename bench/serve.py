@@ -3,7 +3,7 @@
 each, beside bare `Unit::step` by one, over blocks in memory. Prints a line for each kind of command with the medians of all
 rounds, and how much longer a command of one thread takes than a bare step. All settings run in turn in one program.
 
-The program is bench/serve/, which bench/proved.py proves and builds.
+The program is bench/serve/, which tools/proved.py proves and builds.
 
 usage: bench/serve.py
 """
@@ -12,6 +12,7 @@ import statistics
 import sys
 import tempfile
 
+sys.path.append(f"{sys.path[0]}/../tools")
 import proved
 
 USES = "aptpl_file array_units block_file unit_sequence registrants scsi_types unit_history unit_state".split()

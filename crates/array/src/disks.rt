@@ -134,6 +134,9 @@ pub(crate) fn open_blocks<R: Files<File = File> + Clone + Drop>(
     match open_disk(mine, alloc, path) {
         Ok(mut disk) => {
             disk.blocks.tell_by(file_log(log, unit, Part::Disk)?);
+            if let Some(meters) = log.meters() {
+                meters.measured(unit, u64::from(disk.blocks.count()));
+            }
             Ok(disk)
         }
         Err(fault) => {

@@ -6,8 +6,11 @@ mod lines;
 mod operated;
 mod portals;
 mod served;
+mod sight;
+mod timed;
 
 pub use disks::{FileArray, OpenArray, open};
 pub use lines::{Operations, console};
 pub use operated::Operated;
-pub use served::{serve, tell_want};
+pub use served::{Pane, serve, tell_want};
+pub use timed::{FileParts, Parts, open_files, serve_timed};

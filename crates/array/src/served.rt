@@ -1,25 +1,30 @@
 //! The array as it is served.
 
-ghost use Rattle.std.specs.Prelude.{◌≤◌, length};
+ghost use Rattle.std.specs.Prelude.{◌≤◌, length, IfOk};
 ghost use Rattle.portal.specs.Disks.{AreOver};
+ghost use Rattle.portal.specs.Lanes.{AreLanesOf};
+ghost use Rattle.scsi_types.specs.declared.names.Group.TheVariants.{One, Two};
 ghost use Rattle.unit_history.specs.Naming.{IsNamed};
 
 use crate::disks::OpenArray;
 use crate::lines::{Operations, console};
 use crate::operated::Operated;
 use crate::portals::{self, Portal, Ports};
+use crate::sight::Lookout;
 use array_units::Units;
 use block_file::{Blocks, Opener};
 use command_line::{Fault, MAX_UNITS, Options};
 use disk_preparer::{OnDisk, Preparer};
 use event_log::{Event, Log, Resource};
 use portal::{
-    Controllers, Disks, Gate, Prepared, Server, SmallStacks, TargetDevice, listen, start_lanes,
+    Controllers, Disks, Gate, Lane, Prepared, Server, SmallStacks, TargetDevice, listen,
+    start_lanes,
 };
 use scsi_types::Group;
 use std::alloc::Global;
 use std::io::{BufRead, Write};
 use std::net::{Net, SocketAddrV4, TcpListener, TcpStream};
+use std::random::RandomSource;
 use std::sync::{Arc, Wait};
 use std::thread::Threads;
 use std::time::Clock;
@@ -83,7 +88,10 @@ fn server_of<N: Naming<Opened>, B: Blocks, F: Blocks, O: Opener<B>, G: Gate + Dr
     }
 }
 
-// Starts the lanes of both controllers.
+// The lanes of both controllers' desks.
+type Lanes = ([Lane; 4], [Lane; 4]);
+
+// Starts the lanes of one.
 fn start<
     N: Naming<Opened> + Send + Sync + 'static,
     B: Blocks + Send + Sync + 'static,
@@ -91,24 +99,21 @@ fn start<
     O: Opener<B> + Send + Sync + 'static,
     G: Gate + Drop + Send + Sync + 'static,
     R: Threads + Wait + Clone + Drop + Send + 'static,
->(rt: &R, alloc: Global, server: &Served<B, F, O, N, G>) -> Result<(), Fault> {
-    for group in &[Group::One, Group::Two] {
-        let mut stacks = SmallStacks;
-        let started = start_lanes::<N, B, F, O, G, R, SmallStacks>(
-            rt,
-            alloc,
-            server,
-            *group,
-            &mut stacks,
-        );
-        if started.is_err() {
-            return Err(Fault::NoMemory);
-        }
-    }
-    Ok(())
+>(rt: &R, alloc: Global, server: &Served<B, F, O, N, G>, group: Group) -> Result<[Lane; 4], Fault>
+    ensures { IfOk result (AreLanesOf group) }
+{
+    let mut stacks = SmallStacks;
+    let lanes = start_lanes::<N, B, F, O, G, R, SmallStacks>(
+        rt,
+        alloc,
+        server,
+        group,
+        &mut stacks,
+    )?;
+    Ok(lanes)
 }
 
-// Starts the accept loop of each portal.
+// Starts the accept loop of each portal, once both controllers have their lanes.
 fn accept_at<
     N: Naming<Opened> + Send + Sync + 'static,
     B: Blocks + Send + Sync + 'static,
@@ -121,7 +126,11 @@ fn accept_at<
     alloc: Global,
     server: &Served<B, F, O, N, G>,
     portals: Vec<Portal>,
-) -> Result<(), Fault> {
+    _lanes: &Lanes,
+) -> Result<(), Fault>
+    requires first { AreLanesOf One _lanes.now.0 }
+    requires second { AreLanesOf Two _lanes.now.1 }
+{
     for Portal { listener, group } in portals {
         let loops = listen::<
             R,
@@ -153,6 +162,40 @@ fn attend<A: Operations, I: BufRead + Drop, C: Write>(
     console(alloc, reader, writer, array);
 }
 
+/// Where the window is that is to be opened: the socket that listens there, and the version that it tells.
+#[derive(Drop)]
+pub struct Pane {
+    pub listener: TcpListener,
+    pub version: &'static str,
+}
+
+// Opens the window on what is served, where one is wanted.
+fn open_window<
+    N: Naming<Opened> + Send + Sync + 'static,
+    B: Blocks + Send + Sync + 'static,
+    F: Blocks + Send + Sync + 'static,
+    O: Opener<B> + Send + Sync + 'static,
+    G: Gate + Drop + Send + Sync + 'static,
+    R: Threads + Wait + Clock + RandomSource + Clone + Drop + Send + Sync + 'static,
+>(
+    rt: &R,
+    alloc: Global,
+    options: &Options<'_>,
+    server: &Served<B, F, O, N, G>,
+    pane: Option<Pane>,
+) -> Result<(), Fault> {
+    let Some(Pane { listener, version }) = pane else {
+        return Ok(());
+    };
+    let mine = rt.clone()?;
+    let server = Arc::try_clone(server)?;
+    let lookout = Lookout::new(mine, alloc, options, version, server)?;
+    match window::open(rt, alloc, listener, lookout) {
+        Ok(()) => Ok(()),
+        Err(_) => Err(Fault::NoMemory),
+    }
+}
+
 // Serves these units, behind this gate, at the portals that the words ask for.
 fn serve_units<
     N: Naming<Opened> + Send + Sync + 'static,
@@ -164,9 +207,11 @@ fn serve_units<
         + Wait
         + Clock
         + Net<Listener = TcpListener, Stream = TcpStream>
+        + RandomSource
         + Clone
         + Drop
         + Send
+        + Sync
         + 'static,
 >(
     rt: &R,
@@ -175,6 +220,7 @@ fn serve_units<
     units: Vec<NewUnit<B, F, O>>,
     gate: G,
     log: &Log,
+    pane: Option<Pane>,
 ) -> Result<Served<B, F, O, N, G>, Fault>
     requires named { IsNamed N.book N.table N.opening B.contents units.items }
     requires count { length units.items ≤ MAX_UNITS }
@@ -188,8 +234,11 @@ fn serve_units<
     let portals = portals::open(rt, alloc, ports, log)?;
     let found = found_by(alloc, options, ports, log)?;
     let server = server_of::<N, B, F, O, G, R>(rt, alloc, found, units, gate)?;
-    start::<N, B, F, O, G, R>(rt, alloc, &server)?;
-    accept_at::<N, B, F, O, G, R>(rt, alloc, &server, portals)?;
+    let first = start::<N, B, F, O, G, R>(rt, alloc, &server, Group::One)?;
+    let second = start::<N, B, F, O, G, R>(rt, alloc, &server, Group::Two)?;
+    let lanes = (first, second);
+    open_window::<N, B, F, O, G, R>(rt, alloc, options, &server, pane)?;
+    accept_at::<N, B, F, O, G, R>(rt, alloc, &server, portals, &lanes)?;
     Ok(server)
 }
 
@@ -213,9 +262,11 @@ pub fn serve<
         + Wait
         + Clock
         + Net<Listener = TcpListener, Stream = TcpStream>
+        + RandomSource
         + Clone
         + Drop
         + Send
+        + Sync
         + 'static,
     I: BufRead + Drop,
     C: Write,
@@ -225,6 +276,7 @@ pub fn serve<
     options: &Options<'_>,
     array: OpenArray<B, F, O, P>,
     log: &Log,
+    pane: Option<Pane>,
     reader: I,
     writer: &mut C,
 ) -> Result<(), Fault>
@@ -240,7 +292,7 @@ pub fn serve<
     } = array;
     let gate = Prepared::<P, N>::new(preparers);
     let ended = match serve_units::<N, B, F, O, Prepared<P, N>, R>(
-        rt, alloc, options, units, gate, log,
+        rt, alloc, options, units, gate, log, pane,
     ) {
         Ok(server) => {
             log.tell(rt, &Event::Ready);

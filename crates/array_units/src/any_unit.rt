@@ -2,9 +2,10 @@
 ghost use Rattle.std.specs.Prelude.{◌≡◌, ◌&&◌, IfOk, IfErr, MatchBool, List};
 ghost use Rattle.registrants.specs.Nexus.{through};
 ghost use Rattle.unit_history.specs.Calls.{HasAttached, HasNoRoom, HasServed, HasRefused, HasReset, WasGone, HasRetired};
-ghost use Rattle.unit_history.specs.Calls.{HasFlushed, HasMoved, HasStayed, HasWorked, IsShown};
+ghost use Rattle.unit_history.specs.Calls.{HasFlushed, HasMoved, HasStayed, HasWorked};
 ghost use Rattle.unit_entries.specs.Devices.{devices};
 ghost use Rattle.array_units.specs.Places.{place_of};
+ghost use Rattle.array_units.specs.Rows.{IsRead};
 
 use access_states::Change;
 use block_file::{Blocks, DeviceFailed, Opener};
@@ -27,7 +28,7 @@ pub struct Seated<B: Blocks, F: Blocks, O: Opener<B>, N: Array<Opened>, const U:
 impl<B: Blocks, F: Blocks, O: Opener<B>, N: Array<Opened>, const U: usize> Seated<B, F, O, N, U> {
     /// What the board shows. The lock is the reader's own.
     fn read<W: Wait>(&self, rt: &W) -> Row
-        ensures { IsShown (O.claims && B.claims) (N.opening U) result }
+        ensures { IsRead (O.claims && B.claims) (N.opening U) U result }
     {
         let mut seat = self.seat.lock(rt);
         self.unit.board().read(rt, &mut seat)
@@ -155,7 +156,7 @@ impl<B: Blocks, F: Blocks, O: Opener<B>, N: Array<Opened>> AnyUnit<B, F, O, N> {
 
     /// What the board shows.
     pub(crate) fn read<W: Wait>(&self, rt: &W) -> Row
-        ensures { IsShown (O.claims && B.claims) (N.opening (place_of self.now)) result }
+        ensures { IsRead (O.claims && B.claims) (N.opening (place_of self.now)) (place_of self.now) result }
     {
         each!(self, seated, seated.read(rt))
     }

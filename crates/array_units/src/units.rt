@@ -2,10 +2,11 @@
 ghost use Rattle.std.specs.Prelude.{◌≡◌, ◌+◌, ◌<◌, ◌≤◌, ◌&&◌, length, IfOk, IfErr, OnOk, MatchBool};
 ghost use Rattle.registrants.specs.Nexus.{through};
 ghost use Rattle.unit_history.specs.Calls.{HasAttached, HasNoRoom, HasServed, HasRefused, HasReset, WasGone, HasRetired};
-ghost use Rattle.unit_history.specs.Calls.{HasFlushed, HasMoved, HasStayed, HasWorked, IsShown};
+ghost use Rattle.unit_history.specs.Calls.{HasFlushed, HasMoved, HasStayed, HasWorked};
 ghost use Rattle.unit_entries.specs.Devices.{devices};
 ghost use Rattle.unit_history.specs.Naming.{IsNamed, IsNamedAt};
 ghost use Rattle.array_units.specs.Places.{AreInOrder, place_of};
+ghost use Rattle.array_units.specs.Rows.{IsRead};
 
 use crate::any_unit::{AnyUnit, Seated};
 use access_states::Change;
@@ -236,10 +237,11 @@ impl<B: Blocks, F: Blocks, O: Opener<B>, N: Array<Opened>> Units<B, F, O, N> {
         self.at(place).flush(rt)
     }
 
-    /// What the board of the unit at a place shows: the row of a legal history. It does not wait for the unit's lock.
+    /// What the board of the unit at a place shows: the row of a legal history, which begins with that of each row that its reader's
+    /// seat had read before. It does not wait for the unit's lock.
     pub fn read<W: Wait>(&self, rt: &W, place: usize) -> Row
         requires { place < self.now }
-        ensures { IsShown (O.claims && B.claims) (N.opening place) result }
+        ensures { IsRead (O.claims && B.claims) (N.opening place) place result }
     {
         self.at(place).read(rt)
     }

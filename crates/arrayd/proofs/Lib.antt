@@ -1,1 +1,2 @@
 mod Disks
+mod Sent

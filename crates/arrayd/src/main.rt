@@ -1,12 +1,17 @@
 //! A disk array over iSCSI.
 #![tactic(auto)]
 
+ghost use Rattle.std.specs.Prelude.{◌≡◌};
+ghost use Rattle.std.specs.Process.{exit_status};
+ghost use Rattle.command_line.specs.Fault.{status_of};
+
 mod log_file;
 mod once;
+mod pane;
 mod settings;
 mod told;
 
-use array::{open, serve, tell_want};
+use array::{open, open_files, serve, serve_timed, tell_want};
 use command_line::Fault;
 use disk_files::{FileBlocks, FileOpener, FilePreparer, NamedBlocks, SystemFile};
 use event_log::{Event, Log, Page, start};
@@ -15,6 +20,7 @@ use std::alloc::Global;
 use std::env::Env;
 use std::fs::File;
 use std::marker::Brand;
+use std::net::SocketAddrV4;
 use std::process::ExitCode;
 use std::rt::Files;
 use std::time::Clock;
@@ -40,14 +46,29 @@ fn asked_log<R: Env + AllocGlobal + Files<File = File> + Clone + Drop>(
     }
 }
 
+// The log, its file, and where the window is to be, where one is.
+fn asked<R: Env + AllocGlobal + Files<File = File> + Clone + Drop>(
+    rt: &R,
+    alloc: Global,
+    units: usize,
+) -> Result<(Log, Option<LogFile<R>>, Option<SocketAddrV4>), Fault> {
+    let at = pane::asked(rt)?;
+    let (log, file) = asked_log(rt, alloc)?;
+    Ok((pane::counted(alloc, log, at, units)?, file, at))
+}
+
 // Says why the program ends, and with which status.
-fn complain(rt: &impl Eprint, fault: Fault) -> ExitCode {
+fn complain(rt: &impl Eprint, fault: Fault) -> ExitCode
+    ensures { exit_status result ≡ status_of fault }
+{
     let _ = eprintln!(rt; "arrayd: {fault}");
     fault.status()
 }
 
 // The same, where the log has begun.
-fn give_up(rt: &(impl Eprint + Clock), log: &Log, fault: Fault) -> ExitCode {
+fn give_up(rt: &(impl Eprint + Clock), log: &Log, fault: Fault) -> ExitCode
+    ensures { exit_status result ≡ status_of fault }
+{
     tell_want(rt, log, fault);
     event_log::close(rt, log);
     complain(rt, fault)
@@ -73,11 +94,15 @@ fn main(rt: HostRuntime) -> ExitCode {
             Err(fault) => complain(&rt, fault),
         };
     }
+    let patience = match settings::deadline(&rt) {
+        Ok(patience) => patience,
+        Err(fault) => return complain(&rt, fault),
+    };
     options.second_host = match settings::second_host(&rt) {
         Ok(address) => address,
         Err(fault) => return complain(&rt, fault),
     };
-    let (log, file) = match asked_log(&rt, alloc) {
+    let (log, file, at) = match asked(&rt, alloc, options.paths.len()) {
         Ok(asked) => asked,
         Err(fault) => return complain(&rt, fault),
     };
@@ -90,6 +115,32 @@ fn main(rt: HostRuntime) -> ExitCode {
             return complain(&rt, Fault::NoMemory);
         }
         log.tell(&rt, &Event::Started(told::VERSION.as_bytes()));
+    }
+    let pane = match pane::opened(&rt, &log, at) {
+        Ok(pane) => pane,
+        Err(fault) => return give_up(&rt, &log, fault),
+    };
+    if let Some(patience) = patience {
+        let parts = match open_files(&rt, alloc, &log, &options) {
+            Ok(parts) => parts,
+            Err(fault) => return give_up(&rt, &log, fault),
+        };
+        let (reader, mut writer) = (rt.reader(), io::writer(&rt));
+        let served = serve_timed(
+            &rt,
+            alloc,
+            &options,
+            parts,
+            patience,
+            &log,
+            pane,
+            reader,
+            &mut writer,
+        );
+        return match served {
+            Ok(()) => ExitCode::SUCCESS,
+            Err(fault) => complain(&rt, fault),
+        };
     }
     let array = match open(&rt, alloc, &log, &options) {
         Ok(array) => array,
@@ -110,6 +161,7 @@ fn main(rt: HostRuntime) -> ExitCode {
         &options,
         array,
         &log,
+        pane,
         rt.reader(),
         &mut io::writer(&rt),
     );

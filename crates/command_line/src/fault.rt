@@ -1,9 +1,14 @@
 //! Why the program ends without having served, with the text and the exit status of each.
 
+ghost use Rattle.std.specs.Prelude.{◌≡◌};
+ghost use Rattle.std.specs.Process.{exit_status};
+ghost use Rattle.command_line.specs.Fault.{status_of};
+
 use crate::words::WordsFault;
 use scsi_types::NoMemory;
 use std::alloc::{AllocError, AllocFailed};
 use std::fmt::{self, Display, Formatter};
+use std::net::SocketAddrV4;
 use std::process::ExitCode;
 use std::thread::SpawnError;
 
@@ -19,13 +24,17 @@ pub enum Fault {
     CannotUseRegistrationFile(u8),
     /// A controller, 1 or 2, can't listen at its portal with this number, counted from 0.
     CannotListen(u8, u16),
+    /// The window can't listen at this address.
+    CannotListenAt(SocketAddrV4),
     /// Memory, or a thread, is refused.
     NoMemory,
 }
 
 impl Fault {
     /// The exit status.
-    pub fn status(self) -> ExitCode {
+    pub fn status(self) -> ExitCode
+        ensures { exit_status result ≡ status_of self }
+    {
         match self {
             Fault::WrongWords => ExitCode::from(2),
             _ => ExitCode::from(1),
@@ -47,6 +56,7 @@ impl Display for Fault {
                     "cannot listen at controller {controller} portal {portal}"
                 )
             }
+            Fault::CannotListenAt(at) => write!(f, "cannot listen at {at}"),
             Fault::NoMemory => write!(f, "no memory"),
         }
     }

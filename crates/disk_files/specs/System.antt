@@ -19,6 +19,14 @@ ended writes = true
 pub lasts : Node → ℕ → Type 0
 lasts node writes = Unit {0}
 
+-- a file was given this name
+pub is_named : {S : Type 0} → S → Type 0
+is_named name = Unit {0}
+
+-- a flush of a folder ended well that began when a file had been given this name
+pub name_lasts : {S : Type 0} → S → S → Type 0
+name_lasts folder name = Unit {0}
+
 pub none_has_ended : IsTrue (ended 0)
 unfolding ended
 none_has_ended = refl
@@ -40,3 +48,11 @@ a_write_ends writes = refl
 pub a_flush_says : (node : Node) (writes : ℕ) → lasts node writes
 unfolding lasts
 a_flush_says node writes = tt
+
+pub a_rename_says : {S : Type 0} (name : S) → is_named name
+unfolding is_named
+a_rename_says name = tt
+
+pub a_flush_of_a_folder_says : {S : Type 0} (folder name : S) → name_lasts folder name
+unfolding name_lasts
+a_flush_of_a_folder_says folder name = tt

@@ -29,6 +29,6 @@ pub use flushes::{FlushFault, Flushes, LastingFile};
 pub use named::NamedBlocks;
 pub use opener::FileOpener;
 pub use registrations::{Registrations, open_registrations};
-pub use system::SystemFile;
+pub use system::{SystemFile, give_name, make_name_last};
 pub use tally::Tally;
 pub use writes::Writes;

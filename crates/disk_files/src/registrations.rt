@@ -1,6 +1,10 @@
 //! The registration file of a unit.
+ghost use Rattle.std.specs.Prelude.{OnOk};
+ghost use Rattle.disk_files.specs.System.{name_lasts};
+
 use crate::backing::BackingFile;
 use crate::file_log::number_of;
+use crate::system::{give_name, make_name_last};
 use crate::{
     DiskFault, DiskLock, FileBlocks, FileFault, FileLog, NamedBlocks, RegistrationsFault,
     SystemFile,
@@ -131,7 +135,7 @@ fn opened_or_made<R: Files<File = File>>(
     let Ok(new) = joined(alloc, path, ".new") else {
         return Err(RegistrationsFault::NoMemory);
     };
-    if let Err(error) = made(rt, path, new.as_str()) {
+    if let Err(error) = made(rt, folder_of(path), path, new.as_str()) {
         return Err(RegistrationsFault::NotMade(error));
     }
     match FileBlocks::open(rt, path) {
@@ -140,18 +144,21 @@ fn opened_or_made<R: Files<File = File>>(
     }
 }
 
-// Makes a registration file of nothing under another name, and gives it its own when it is whole, so that a stop leaves
-// none or a whole one. Else the error of the system.
-fn made<R: Files<File = File>>(rt: &R, path: &str, new: &str) -> Result<(), u32> {
+// Makes a registration file of nothing in a folder under another name, and gives it its own when it is whole, so that a stop leaves
+// none or a whole one. That it has this name lasts. Else the error of the system.
+fn made<R: Files<File = File>>(rt: &R, folder: &str, path: &str, new: &str) -> Result<(), u32>
+    ensures { OnOk result (name_lasts folder.now path.now) }
+{
     let file = begun(rt, new)?;
     if !is_formatted(file) {
         return Err(0);
     }
-    told(fs::rename(rt, new, path))?;
-    if !is_flushed(rt, folder_of(path)) {
-        return Err(0);
+    give_name(rt, new, path)?;
+    if make_name_last(rt, folder, path) {
+        Ok(())
+    } else {
+        Err(0)
     }
-    Ok(())
 }
 
 // What the system said, where a call failed.
@@ -212,13 +219,5 @@ fn folder_of(path: &str) -> &str {
         Some(("", _)) => "/",
         Some((folder, _)) => folder,
         None => ".",
-    }
-}
-
-// Makes the names in a folder last.
-fn is_flushed<R: Files<File = File>>(rt: &R, folder: &str) -> bool {
-    match File::open(rt, folder) {
-        Ok(folder) => folder.sync_all().is_ok(),
-        Err(_) => false,
     }
 }

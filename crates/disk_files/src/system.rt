@@ -1,9 +1,9 @@
-//! A file of the system: the calls that reach it.
+//! A file of the system: the calls that reach it, and its name.
 //!
 //! What is said of these calls over the program's own type is said here alone: no other proof opens the words of `specs/System`. That each
 //! is the call of the system that it says, by its offset and its bytes, no contract can show. Tests call each.
-ghost use Rattle.std.specs.Prelude.{false, [], refl, OnOk};
-ghost use Rattle.disk_files.specs.System.{has_read, has_written, ended, lasts, none_has_ended};
+ghost use Rattle.std.specs.Prelude.{false, [], refl, IsTrue, OnOk};
+ghost use Rattle.disk_files.specs.System.{has_read, has_written, ended, lasts, is_named, name_lasts, none_has_ended};
 
 use crate::backing::{BackingFile, Counted};
 use crate::fault::FileFault;
@@ -11,7 +11,7 @@ use crate::file_log::number_of;
 use crate::flushes::LastingFile;
 use crate::node::node_of;
 use disk_preparer::Node;
-use std::fs::{File, OpenFile};
+use std::fs::{self, File, OpenFile};
 use std::io::{ErrorKind, Seek, SeekFrom};
 use std::os::unix::fs::FileExt;
 use std::rt::Files;
@@ -116,5 +116,38 @@ impl LastingFile for SystemFile {
 
     fn make_last(&self, writes: u64) -> Result<(), u32> {
         self.sync(writes)
+    }
+}
+
+/// Gives a file another name, in place of the file that has it.
+#[tactic(auto, using(crate::specs::System::a_rename_says))]
+pub fn give_name<R: Files<File = File>>(rt: &R, from: &str, name: &str) -> Result<(), u32>
+    ensures { OnOk result (is_named name.now) }
+{
+    match fs::rename(rt, from, name) {
+        Ok(()) => Ok(()),
+        Err(e) => Err(number_of(&e)),
+    }
+}
+
+// Has the system flush a folder by a handle, in which a file has this name.
+#[tactic(auto, using(crate::specs::System::a_flush_of_a_folder_says))]
+fn sync_name(handle: &File, folder: &str, name: &str) -> bool
+    requires { is_named name.now }
+    ensures { IsTrue result → name_lasts folder.now name.now }
+{
+    let _ = folder;
+    let _ = name;
+    handle.sync_all().is_ok()
+}
+
+/// Makes the name last that a file was given in a folder.
+pub fn make_name_last<R: Files<File = File>>(rt: &R, folder: &str, name: &str) -> bool
+    requires { is_named name.now }
+    ensures { IsTrue result → name_lasts folder.now name.now }
+{
+    match File::open(rt, folder) {
+        Ok(handle) => sync_name(&handle, folder, name),
+        Err(_) => false,
     }
 }

@@ -3,17 +3,24 @@
 //! cannot be kept at once is dropped and counted.
 #![tactic(auto)]
 
+mod counts;
 mod event;
+mod happenings;
 pub mod laws;
 mod line;
 mod log;
+mod meters;
 mod spelling;
 mod stamp;
 mod words;
 mod writer;
 
+pub use counts::{BOUNDS, BUCKETS, Counts, Ended, IN_ORDER, KEYS, OPERATIONS, Served};
 pub use event::{By, Event, Initiator, Path, Place, Reservation};
+pub use happenings::{CALLS, CALLS_IN_ORDER, CAUSES, CAUSES_IN_ORDER, Happenings};
+pub use line::escape;
 pub use log::Log;
+pub use meters::{Hand, Meters, Seen, SessionSeen, Visit};
 pub use spelling::spell;
 pub use stamp::Stamp;
 pub use words::{

@@ -48,7 +48,8 @@ fn byte(line: &mut String, b: u8) -> Result<(), AllocError>
     }
 }
 
-fn bytes(line: &mut String, name: &[u8]) -> Result<(), AllocError>
+/// Puts a name behind what a line has, escaped as it stands between quotes.
+pub fn escape(line: &mut String, name: &[u8]) -> Result<(), AllocError>
     ensures { OnOk result (string_bytes line.new ≡ string_bytes line.old ++ flat_map escaped name.now) }
 {
     for b in name {
@@ -62,7 +63,7 @@ fn name(line: &mut String, name: &[u8]) -> Result<(), AllocError>
     ensures { OnOk result (string_bytes line.new ≡ string_bytes line.old ++ quoted name.now) }
 {
     line.push('"')?;
-    bytes(line, name)?;
+    escape(line, name)?;
     line.push('"')
 }
 

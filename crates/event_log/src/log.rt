@@ -4,6 +4,7 @@ ghost use Rattle.std.specs.String.{string_bytes};
 ghost use Rattle.event_log.specs.Text.{text_of};
 
 use crate::event::Event;
+use crate::meters::Meters;
 use crate::spelling::spell;
 use crate::stamp::Stamp;
 use std::alloc::{AllocError, Global};
@@ -42,6 +43,8 @@ pub(crate) struct Shared {
     pub(crate) waiting: Mutex<Waiting>,
     /// How many lines were dropped and not told so yet.
     pub(crate) dropped: AtomicU64,
+    /// 1: the last lines could not be written.
+    pub(crate) failing: AtomicU64,
     /// 1: the writer is to end. 2: it has.
     pub(crate) end: AtomicU64,
     /// Wakes the writer.
@@ -116,18 +119,26 @@ impl Shared {
 /// A hand that holds a log: one that is off keeps nothing.
 pub struct Log {
     pub(crate) shared: Option<Arc<Shared, Global>>,
+    // What is counted of what is told, where it is counted.
+    meters: Option<Arc<Meters, Global>>,
 }
 
 impl Drop for Log {
     fn drop(self) {
-        let Self { shared: _ } = self;
+        let Self {
+            shared: _,
+            meters: _,
+        } = self;
     }
 }
 
 impl Log {
     /// A log that is off.
     pub const fn off() -> Log {
-        Log { shared: None }
+        Log {
+            shared: None,
+            meters: None,
+        }
     }
 
     /// A log that is on. Nothing writes its lines yet.
@@ -135,31 +146,72 @@ impl Log {
         let shared = Shared {
             waiting: Mutex::new(Waiting::new(alloc)?),
             dropped: AtomicU64::new(0),
+            failing: AtomicU64::new(0),
             end: AtomicU64::new(0),
             bell: Parker::new(),
         };
         Ok(Log {
             shared: Some(Arc::new(alloc, shared)?),
+            meters: None,
         })
+    }
+
+    /// The same log, of which is counted what it is told, be it on or off.
+    pub fn counting(self, meters: Arc<Meters, Global>) -> Log {
+        let mut log = self;
+        log.meters = Some(meters);
+        log
+    }
+
+    /// What is counted, where it is.
+    pub fn meters(&self) -> Option<&Meters> {
+        match &self.meters {
+            Some(meters) => Some(meters),
+            None => None,
+        }
+    }
+
+    // Counts an event, where it is counted.
+    fn count(&self, event: &Event<'_>) {
+        if let Some(meters) = &self.meters {
+            meters.happened(event);
+        }
     }
 
     /// Another hand that holds it.
     pub fn share(&self) -> Result<Log, AllocError> {
-        match &self.shared {
-            None => Ok(Log::off()),
-            Some(shared) => Ok(Log {
-                shared: Some(Arc::try_clone(shared)?),
-            }),
-        }
+        let shared = match &self.shared {
+            None => None,
+            Some(shared) => Some(Arc::try_clone(shared)?),
+        };
+        let meters = match &self.meters {
+            None => None,
+            Some(meters) => Some(Arc::try_clone(meters)?),
+        };
+        Ok(Log { shared, meters })
     }
 
-    /// Whether it is on.
+    /// Whether it is on, or what it is told is counted.
     pub fn is_on(&self) -> bool {
-        self.shared.is_some()
+        self.shared.is_some() || self.meters.is_some()
+    }
+
+    /// Whether the last lines could not be written.
+    pub fn is_failing(&self) -> bool {
+        match &self.shared {
+            Some(shared) => shared.failing.load(Ordering::SeqCst) != 0,
+            None => false,
+        }
     }
 
     /// Tells an event where no clock is: it has the time at which the writer wakes, or the next one is told.
     pub fn note(&self, event: &Event<'_>) {
+        self.count(event);
+        self.keep(event);
+    }
+
+    // Keeps an event where no clock is.
+    fn keep(&self, event: &Event<'_>) {
         let Some(shared) = &self.shared else {
             return;
         };
@@ -175,11 +227,12 @@ impl Log {
 
     /// Tells an event.
     pub fn tell<R: Clock>(&self, rt: &R, event: &Event<'_>) {
+        self.count(event);
         let Some(shared) = &self.shared else {
             return;
         };
         let Ok(now) = rt.since_1970() else {
-            return self.note(event);
+            return self.keep(event);
         };
         let dropped = match shared.reach() {
             Some(mut waiting) => {

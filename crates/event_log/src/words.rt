@@ -144,7 +144,7 @@ pub enum Unusable {
 }
 
 impl Kind {
-    pub(crate) fn text(self) -> &'static str
+    pub fn text(self) -> &'static str
         ensures { result.now ≡ kind_text self }
     {
         match self {
@@ -208,7 +208,7 @@ impl Action {
 }
 
 impl Operation {
-    pub(crate) fn text(self) -> &'static str
+    pub fn text(self) -> &'static str
         ensures { result.now ≡ operation_text self }
     {
         match self {
@@ -235,7 +235,7 @@ impl Part {
 }
 
 impl Call {
-    pub(crate) fn text(self) -> &'static str
+    pub fn text(self) -> &'static str
         ensures { result.now ≡ call_text self }
     {
         match self {

@@ -95,7 +95,11 @@ fn write_on<R: Wait + Clock, P: Page>(rt: &R, shared: &Shared, page: &P, writer:
         let dropped = take(rt, shared, &mut writer.lines);
         if !writer.lines.is_empty() {
             writer.open(page);
-            if !writer.write() {
+            let is_written = writer.write();
+            shared
+                .failing
+                .store(u64::from(!is_written), Ordering::SeqCst);
+            if !is_written {
                 let told = if dropped == 0 { 0 } else { 1 };
                 let lost = lines_in(writer.lines.as_str()).saturating_sub(told);
                 shared.drop_lines(lost.saturating_add(dropped));

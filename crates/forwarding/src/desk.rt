@@ -21,8 +21,8 @@ use unit_sequence::Array;
 /// Longer data is not copied for a desk: the worker that it came to serves its command at once, past those that wait.
 pub const LONGEST_COPY: usize = 256;
 
-/// So many lanes a desk has. As many workers at a time serve a command with no longer data past its queue.
-pub const LANES: u64 = 4;
+// So many workers at a time serve a command with no longer data past its queue, as many as a desk has lanes.
+const AT_ONCE: u64 = 4;
 
 /// Why a desk does not take a job.
 #[derive(Clone, Copy, Debug, PartialEq, Eq, Error)]
@@ -103,6 +103,13 @@ impl<B: Blocks, F: Blocks, O: Opener<B>, N: Array<Opened>> Desk<B, F, O, N> {
             queue: CachePadded::new(Mutex::new(queue)),
             filled: Condvar::new(),
         })
+    }
+
+    /// The group of its controller.
+    pub fn group(&self) -> Group
+        ensures { result ≡ self.now }
+    {
+        self.group
     }
 
     // Lets a command wait behind those that came before. A lane is woken where others wait.
@@ -313,7 +320,7 @@ impl<B: Blocks, F: Blocks, O: Opener<B>, N: Array<Opened>> Desk<B, F, O, N> {
         if bytes.len() > LONGEST_COPY {
             return self.serve_at_once(rt, alloc, units, pass, asked, bytes);
         }
-        if self.at_once.fetch_add(1, Ordering::SeqCst) < LANES {
+        if self.at_once.fetch_add(1, Ordering::SeqCst) < AT_ONCE {
             let served = self.serve_at_once(rt, alloc, units, pass, asked, bytes);
             self.at_once.fetch_sub(1, Ordering::SeqCst);
             return served;

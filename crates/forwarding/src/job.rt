@@ -128,7 +128,7 @@ impl<B: Blocks, F: Blocks, O: Opener<B>, N: Array<Opened>> Model for Job<B, F, O
 impl<B: Blocks, F: Blocks, O: Opener<B>, N: Array<Opened>> Job<B, F, O, N> {
     // What waited at the desk of this group.
     pub(crate) fn from_desk(waiting: Waiting<B, F, O, N>, by_group: Group) -> Job<B, F, O, N>
-        ensures { result.names.by_group ≡ by_group }
+        ensures { result ≡ handed_of waiting.pass waiting.asked waiting.bytes.items by_group }
     {
         Job { waiting, by_group }
     }
@@ -308,8 +308,8 @@ impl<'a, B: Blocks, F: Blocks, O: Opener<B>, N: Array<Opened>> Ticket<'a, B, F, 
     }
 }
 
-// A command of a session that is to wait at the desk of a group, and its ticket. Refused, there was no memory, and the pass is
-// handed back.
+// A command of a session that is to wait at the desk of a group, and its ticket: the job that waits is the ticket's. Refused, there
+// was no memory, and the pass is handed back.
 pub(crate) fn prepare<'a, B: Blocks, F: Blocks, O: Opener<B>, N: Array<Opened>>(
     alloc: Global,
     pass: Pass<B, F, O, N>,
@@ -319,6 +319,7 @@ pub(crate) fn prepare<'a, B: Blocks, F: Blocks, O: Opener<B>, N: Array<Opened>>(
 ) -> Result<(Ticket<'a, B, F, O, N>, Waiting<B, F, O, N>), Pass<B, F, O, N>>
     ensures ticket { IfOk result (λ r. r.0 ≡ handed_of pass asked.now bytes.now by_group) }
     ensures pass { IfOk result (λ r. r.1.pass ≡ pass) }
+    ensures waits { IfOk result (λ r. handed_of r.1.pass r.1.asked r.1.bytes.items by_group ≡ r.0) }
     ensures back { IfErr result (λ back. back ≡ pass) }
 {
     let Ok(copy) = bytes.to_vec(alloc) else {

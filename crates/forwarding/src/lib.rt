@@ -7,7 +7,7 @@ mod job;
 mod names;
 mod queue;
 
-pub use desk::{Desk, DeskFault, LANES, LONGEST_COPY};
+pub use desk::{Desk, DeskFault, LONGEST_COPY};
 pub use desk_jobs::Names;
 pub use job::{Answer, Job, Ticket};
 pub use queue::{MOST_JOBS, NotQueued, Queue};

@@ -114,6 +114,8 @@ module _ (claims : Claims) (late : Late) (opening : ℕ → UnitState) where
         is = e.is ∙ ap (λ (h : List Entry). h ++ e.rest) is.seen;
         entries = is.entries;
         ends = subst (λ (n : ℕ). IsLast n e.rest) is.session e.last;
+        left = subst (λ (n : ℕ). claims.left (opening unit) n one.1) is.session
+            (subst (λ (n : ℕ). claims.left (opening n) a.pass.session one.1) is.place left.1.1);
       }
 
   attached_at : (nexus : Nexus) (first : ℕ) (at : List At) (n : ℕ) (a : At) → AreAttached claims opening nexus first at

@@ -232,6 +232,7 @@ has_done_as_told claims late s nexus done history is =
         is = refl;
         entries = t.2;
         ends = is.ends;
+        left = tt;
       },
       subst (λ (h : List Entry). AreAlike (length is.before) h (((is.before ++ Attach nexus ∷ []) ++ t.0) ++ is.rest)) (sym is.is) t.3,
     )

@@ -52,7 +52,7 @@ module _ (claims : Claims) (s : UnitState) where
   ended old history is =
       ⊎_elim (λ (d : HasRetired claims.contents s old history). by_end old history d)
       (λ (g : (new : Known Entry) × (new.seen ≡ history) × WasGone claims.contents s old new).
-      by_another old g.0 history g.1 g.2) is
+      by_another old g.0 history g.1 g.2) is.0
 
 -- what is so of all is so of those behind the first
 pub all_left : {X : Type 0} (P : X → Type 0) (xs : List X) → All P xs → All P (remove xs 0)

@@ -110,7 +110,7 @@ module _ (claims : Claims) (late : Late) (s : UnitState) where
       (AreEntries session (before ++ e ∷ []) done behind)
 
   -- In this legal history a session of this nexus has attached. Its own entries since are what it has done at the unit, in order,
-  -- and its end. Its number is the place of its Attach.
+  -- and its end. Its number is the place of its Attach, and it is this session that has left the unit.
   pub record HasDone (nexus : Nexus) (done : List Done) (history : List Entry) : Type 0 where
     pub before : List Entry
     pub behind : List Entry
@@ -119,6 +119,7 @@ module _ (claims : Claims) (late : Late) (s : UnitState) where
     pub is : history ≡ ((before ++ Attach nexus ∷ []) ++ behind) ++ rest
     pub entries : AreEntries (length before) (before ++ Attach nexus ∷ []) done behind
     pub ends : IsLast (length before) rest
+    pub left : claims.left s (length before) history
 
 -- Two histories of one unit that differ in entries of this session's own alone, each of which stands where the other has one.
 abbrev pub AreAlike : ℕ → List Entry → List Entry → Type 0

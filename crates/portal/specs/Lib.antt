@@ -1,11 +1,14 @@
 pub mod Disks
 pub mod Entries
 pub mod Handles
+pub mod Lanes
 pub mod Late
+pub mod Leaving
 pub mod Live
 pub mod Passes
 pub mod Server
 pub mod Sessions
+pub mod Silence
 pub mod Submitted
 pub mod Target
 pub mod Units

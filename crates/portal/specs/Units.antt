@@ -14,14 +14,17 @@ use Rattle.portal.specs.declared.units.Unserved.TheVariants.{ByUnit, ByDesk}
 
 -- What is known of the devices of units: whether their types claim what is said of a disk; and what became of a unit's in a command
 -- that was served, the last entry of a history, which is said of the state that the unit opened in, the session, the command with
--- its data, the reply and that history.
+-- its data, the reply and that history. And that a session, by its number, has left a unit where this history was seen: nothing but
+-- its end there says so.
 pub record Claims : Type 1 where
   pub contents : Bool
   pub worked : UnitState → ℕ → Result ScsiCommand CdbFault → List ℕ → ReplyValue → List Entry → Type 0
+  pub left : UnitState → ℕ → List Entry → Type 0
 
 -- of a device of any kind nothing is known
 abbrev pub any_device : Claims
-any_device = record { contents = false; worked = λ s session asked bytes reply history. Unit {0} }
+any_device =
+    record { contents = false; worked = λ s session asked bytes reply history. Unit {0}; left = λ s session history. Unit {0} }
 
 -- a unit that opened in this state, over devices of which so much is known
 module _ (claims : Claims) (s : UnitState) where
@@ -42,5 +45,6 @@ module _ (claims : Claims) (s : UnitState) where
   -- which it is not attached; or, where it was gone before, one that shows that.
   abbrev pub IsRetired : Known Entry → List Entry → Type 0
   IsRetired old history =
-      HasRetired claims.contents s old history
-      ⊎ ((new : Known Entry) × (new.seen ≡ history) × WasGone claims.contents s old new)
+      (HasRetired claims.contents s old history
+      ⊎ ((new : Known Entry) × (new.seen ≡ history) × WasGone claims.contents s old new))
+      × claims.left s old.session history

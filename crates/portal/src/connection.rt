@@ -1,23 +1,49 @@
 //! What a session runs over.
+ghost use Rattle.std.specs.Prelude.{ℕ};
 
 use std::alloc::Global;
 use std::net::{Shutdown, TcpStream};
 use std::sync::Arc;
+use std::time::Duration;
 
 /// A connection, as far as others than its session's reader and writer touch it.
 pub trait Connection {
+    /// It was told to end where its initiator is silent for so many seconds. Nothing but `limit` says so.
+    ghost is_limited: { Self → ℕ → Type 0 };
+
+    /// It was told that its initiator may be silent. Nothing but `settle` says so.
+    ghost is_settled: { Self → Type 0 };
+
     /// Ends the connection, from any thread: a read or a write that waits at it ends too.
     fn shut(&self);
 
+    /// The login is not over yet: a read that waits for so many seconds fails.
+    fn limit(&self, seconds: u64)
+        ensures { is_limited self.now seconds };
+
     /// The login is over: from now on the initiator may be silent for as long as it likes.
-    fn settle(&self);
+    fn settle(&self)
+        ensures { is_settled self.now };
 }
 
 impl Connection for Arc<TcpStream, Global> {
+    ghost use Rattle.std.specs.Arc.{arc_value};
+    ghost use Rattle.portal.specs.Silence.{has_limit, has_none};
+
+    ghost is_limited = { λ c. has_limit (arc_value c) };
+
+    ghost is_settled = { λ c. has_none (arc_value c) };
+
     fn shut(&self) {
         let _ = self.shutdown(Shutdown::Both);
     }
 
+    #[tactic(auto, using(crate::specs::Silence::a_limit_says))]
+    fn limit(&self, seconds: u64) {
+        let _ = self.set_read_timeout(Some(Duration::from_secs(seconds)));
+    }
+
+    #[tactic(auto, using(crate::specs::Silence::no_limit_says))]
     fn settle(&self) {
         let _ = self.set_read_timeout(None);
     }

@@ -95,12 +95,14 @@ impl<B: Blocks, F: Blocks, O: Opener<B>, N: Array<Opened>> LogicalUnits<
 > for Controllers<B, F, O, N> {
     ghost use Rattle.unit_history.specs.Calls.{HasWorked};
     ghost use Rattle.unit_entries.specs.Devices.{claims_of, devices};
+    ghost use Rattle.portal.specs.Leaving.{has_left};
 
     ghost unit_count = { λ c. c };
 
     ghost claims = { record {
       contents = claims_of (devices B.Blocks F.Blocks O.Opener);
       worked = HasWorked (devices B.Blocks F.Blocks O.Opener);
+      left = has_left;
     } };
 
     ghost opening = { N.opening };
@@ -151,6 +153,7 @@ impl<B: Blocks, F: Blocks, O: Opener<B>, N: Array<Opened>> LogicalUnits<
         self.units.reset(rt, pass)
     }
 
+    #[tactic(auto, using(crate::specs::Leaving::an_end_says))]
     fn retire<W: Wait>(&self, rt: &W, pass: UnitPass<B, F, O, N>) -> LegalHistory<B, F, O, N> {
         match self.units.retire(rt, pass) {
             Ok(seen) => seen,

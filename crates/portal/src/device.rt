@@ -4,6 +4,12 @@ use crate::live::Table;
 use std::alloc::Global;
 use std::sync::Mutex;
 
+/// The turn of a normal session to be attached to the units of a target device and to enter its table. There is one.
+#[derive(Drop)]
+pub struct Turn {
+    only: (),
+}
+
 /// A SCSI target device with its logical units (SAM-5, 4.5), and the sessions that live at it.
 #[derive(Drop)]
 pub struct TargetDevice<U: Drop, G: Drop, S: Drop> {
@@ -15,7 +21,7 @@ pub struct TargetDevice<U: Drop, G: Drop, S: Drop> {
     pub sessions: S,
     /// Held while a normal session is attached to the units and enters the table: so of two of one nexus the later one is the
     /// later one at each unit and in the table.
-    pub beginning: Mutex<()>,
+    pub beginning: Mutex<Turn>,
 }
 
 impl<U: Drop, G: Drop, C: Drop> TargetDevice<U, G, Mutex<Table<C>>> {
@@ -29,7 +35,7 @@ impl<U: Drop, G: Drop, C: Drop> TargetDevice<U, G, Mutex<Table<C>>> {
             units,
             gate,
             sessions: Mutex::new(Table::new(alloc)),
-            beginning: Mutex::new(()),
+            beginning: Mutex::new(Turn { only: () }),
         }
     }
 }

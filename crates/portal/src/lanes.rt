@@ -1,32 +1,51 @@
 //! The lanes of a controller: the threads that serve what waits at its desk.
+ghost use Rattle.std.specs.Prelude.{◌≡◌, IfOk};
+ghost use Rattle.portal.specs.Lanes.{AreLanesOf};
 
 use crate::controllers::Controllers;
 use crate::gate::Gate;
 use crate::server::Server;
 use crate::stacks::Stacks;
 use block_file::{Blocks, Opener};
-use forwarding::LANES;
-use scsi_types::Group;
+use scsi_types::{Group, NoMemory};
 use std::alloc::Global;
-use std::io;
+use std::marker::Model;
 use std::sync::{Arc, Wait};
-use std::thread::{Builder, JoinHandle, Threads};
+use std::thread::{Builder, Promise, PromisedHandle, Threads};
 use unit_history::Opened;
 use unit_sequence::Array;
 
-// Serves what comes to the desk of a group, until it is closed and nothing waits there any more.
+/// What a lane's thread comes to: it has served at the desk of this group.
+#[derive(Clone, Copy, Drop)]
+pub struct AtDesk {
+    pub group: Group,
+}
+
+impl Promise<Group> for AtDesk {
+    ghost use Rattle.std.specs.Prelude.{◌≡◌};
+
+    ghost kept_by = { λ promise served. served ≡ promise.group };
+}
+
+/// A lane: its thread ends with the group at whose desk it has served.
+pub type Lane = PromisedHandle<Group, AtDesk>;
+
+// Serves what comes to the desk of a group, until it is closed and nothing waits there any more: the group of that desk.
 fn lane<B: Blocks, F: Blocks, O: Opener<B>, N: Array<Opened>, R: Wait>(
     rt: &R,
     alloc: Global,
     controllers: &Controllers<B, F, O, N>,
     group: Group,
-) {
+) -> Group
+    ensures { result ≡ group }
+{
     let desk = controllers.desk(group);
     for _ in rt.forever() {
         if !desk.serve_next(rt, alloc, controllers.units()) {
             break;
         }
     }
+    desk.group()
 }
 
 // Starts one lane of a group's controller.
@@ -44,16 +63,22 @@ fn start_lane<
     server: &Arc<Server<Controllers<B, F, O, N>, G>, Global>,
     group: Group,
     stacks: &mut S,
-) -> io::Result<JoinHandle<()>> {
+) -> Result<Lane, NoMemory>
+    ensures { IfOk result (λ lane. lane.promise.group ≡ group) }
+{
     let server = Arc::try_clone(server)?;
     let mine = rt.clone()?;
     let work = move || lane(&mine, alloc, &server.device.units, group);
-    Builder::new()
+    match Builder::new()
         .stack_size(stacks.next_stack())
-        .spawn(rt, work)
+        .spawn_with(rt, AtDesk { group }, work)
+    {
+        Ok(lane) => Ok(lane),
+        Err(_) => Err(NoMemory),
+    }
 }
 
-/// Starts the lanes of a group's controller, which end behind the close of its desk.
+/// Starts the lanes of a group's controller, as many as serve a desk. They end behind its close.
 pub fn start_lanes<
     N: Array<Opened> + Send + Sync + 'static,
     B: Blocks + Send + Sync + 'static,
@@ -68,9 +93,13 @@ pub fn start_lanes<
     server: &Arc<Server<Controllers<B, F, O, N>, G>, Global>,
     group: Group,
     stacks: &mut S,
-) -> io::Result<()> {
-    for _ in 0..LANES {
-        let _lane = start_lane::<N, B, F, O, G, R, S>(rt, alloc, server, group, stacks)?;
-    }
-    Ok(())
+) -> Result<[Lane; 4], NoMemory>
+    ensures { IfOk result (AreLanesOf group) }
+{
+    Ok([
+        start_lane::<N, B, F, O, G, R, S>(rt, alloc, server, group, stacks)?,
+        start_lane::<N, B, F, O, G, R, S>(rt, alloc, server, group, stacks)?,
+        start_lane::<N, B, F, O, G, R, S>(rt, alloc, server, group, stacks)?,
+        start_lane::<N, B, F, O, G, R, S>(rt, alloc, server, group, stacks)?,
+    ])
 }

@@ -5,6 +5,7 @@
 mod attached;
 mod connection;
 mod controllers;
+mod counted;
 mod device;
 mod gate;
 mod handles;
@@ -29,7 +30,7 @@ pub use controllers::Controllers;
 pub use device::TargetDevice;
 pub use gate::{Disks, Gate, Prepared};
 pub use handles::{Handled, LAST_NUMBER, LAST_TSIH, next_tsih};
-pub use lanes::start_lanes;
+pub use lanes::{AtDesk, Lane, start_lanes};
 pub use live::{EnterFault, LiveSession, Table};
 pub use logged_target::{LoggedTarget, Visitor};
 pub use server::{Server, Socket, Stop, accept, listen};

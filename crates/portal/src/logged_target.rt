@@ -2,12 +2,13 @@
 ghost use Rattle.std.specs.Prelude.{◌≡◌, [], map};
 
 use crate::connection::Connection;
+use crate::counted::{begin, count, enter, leave};
 use crate::gate::Gate;
 use crate::sessions::Sessions;
 use crate::target::{BeginFault, SessionTarget};
 use crate::told::{States, is_trouble, operation_of, reservation_in, sense_of, states_in};
 use crate::units::{LogicalUnits, Pass};
-use event_log::{By, Cause, Event, Initiator, Log, Operation, Path, Reservation};
+use event_log::{By, Cause, Event, Hand, Initiator, Log, Operation, Path, Reservation};
 use login::Kind;
 use scsi_types::{Asked, Status};
 use session::{BeginAnswer, ResetAnswer, Target, TargetAnswer};
@@ -185,6 +186,8 @@ pub struct LoggedTarget<
     log: &'a Log,
     path: Path,
     visitor: Visitor,
+    // What its commands are counted by, where they are.
+    hand: Option<Hand>,
 }
 
 impl<
@@ -231,6 +234,7 @@ impl<
             log,
             path,
             visitor: Visitor::nobody(alloc),
+            hand: None,
         }
     }
 
@@ -298,6 +302,16 @@ impl<
         let tried = self.target.try_begin(name, isid, kind);
         self.visitor.tried(tried);
         self.told().tried(tried, kind);
+        let who = self.visitor.initiator();
+        self.hand = enter(
+            self.rt,
+            self.alloc,
+            self.log,
+            who,
+            self.path,
+            tried,
+            kind_of(kind),
+        );
         match tried {
             Ok(tsih) => BeginAnswer::Begun(tsih),
             Err(_) => BeginAnswer::Refused,
@@ -312,6 +326,7 @@ impl<
         let lives = self.target.is_live();
         self.visitor.end(lives);
         self.target.end();
+        leave(self.rt, self.log, self.hand.take());
     }
 
     fn foresees(&self) -> bool {
@@ -324,7 +339,9 @@ impl<
 
     fn serve(&mut self, unit: Option<u8>, asked: Asked, bytes: &[u8]) -> TargetAnswer {
         let outcome = outcome_of(self.log, &asked, bytes);
+        let began = begin(self.rt, &self.hand, unit);
         let answer = self.target.serve(unit, asked, bytes);
+        count(self.rt, &mut self.hand, unit, &asked, began, &answer);
         self.told().served(unit, outcome, &answer);
         answer
     }

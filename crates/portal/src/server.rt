@@ -1,6 +1,8 @@
 //! Sessions over sockets: an accept loop a portal, a worker a session.
 ghost use Rattle.std.specs.Prelude.{◌≡◌, IfOk, map};
+ghost use Rattle.std.specs.Arc.{arc_value};
 ghost use Rattle.portal.specs.Server.{named_by};
+ghost use Rattle.portal.specs.Silence.{has_limit, login_silence};
 
 use crate::connection::Connection;
 use crate::device::TargetDevice;
@@ -145,7 +147,9 @@ fn serve_as<R: Wait + Clock, U: LogicalUnits<P, H> + Drop, G: Gate + Drop, P: Pa
     socket: &Socket,
     path: Path,
     me: &Identity<'_>,
-) -> Result<(), NoMemory> {
+) -> Result<(), NoMemory>
+    requires { has_limit (arc_value socket.now) login_silence }
+{
     let Ok(connection) = Arc::try_clone(socket) else {
         return Err(NoMemory);
     };
@@ -193,7 +197,9 @@ fn serve_socket<R: Wait + Clock, U: LogicalUnits<P, H> + Drop, G: Gate + Drop, P
     group: Group,
     socket: &Socket,
     path: Path,
-) -> Result<(), NoMemory> {
+) -> Result<(), NoMemory>
+    requires { has_limit (arc_value socket.now) login_silence }
+{
     let reached = *path.portal.ip();
     let first = named(alloc, reached, &server.first)?;
     let second = named(alloc, reached, &server.second)?;
@@ -220,7 +226,7 @@ fn work<R: Wait + Clock, U: LogicalUnits<P, H> + Drop, G: Gate + Drop, P: Pass, 
 ) {
     let stream: &TcpStream = socket;
     let _ = stream.set_nodelay(true);
-    let _ = stream.set_read_timeout(Some(Duration::from_secs(LOGIN_SILENCE)));
+    socket.limit(LOGIN_SILENCE);
     let path = path_of(stream, group);
     if !is_kept_alive(stream) {
         server.log.tell(rt, &Event::NoKeepalive(path.from));

@@ -11,11 +11,12 @@ use scsi_types::{Group, PortName};
 use std::sync::{Mutex, Wait};
 
 /// The table of the sessions that live at an array, which all its threads share.
-pub trait Sessions<C> {
+pub trait Sessions<C: Connection> {
     /// What its calls have said of the sessions. Nothing else says it.
     ghost says: { Sayings };
 
-    /// A session of this port, group and kind begins to live, as by [`Table::enter`]: its number and its TSIH.
+    /// A session of this port, group and kind begins to live, as by [`Table::enter`]: its number and its TSIH. Its initiator may be
+    /// silent from now on.
     fn enter<R: Wait>(
         &self,
         rt: &R,
@@ -24,6 +25,7 @@ pub trait Sessions<C> {
         kind: Kind,
         connection: C,
     ) -> Result<(u64, u16), EnterFault>
+        requires settled { C.is_settled connection }
         ensures entered { IfOk result (λ r. says.entered (through port group) kind r.0 r.1) }
         ensures tsih { IfOk result (λ r. 0 < r.1) }
         ensures refused { IfErr result says.refused };
@@ -113,7 +115,7 @@ impl<C: Connection + Drop> Living<C> for Table<C> {
     }
 }
 
-impl<C, T: Living<C>> Sessions<C> for Mutex<T> {
+impl<C: Connection, T: Living<C>> Sessions<C> for Mutex<T> {
     ghost use Rattle.portal.specs.Sessions.{of_table};
 
     ghost says = { of_table T.entered T.refused T.lived T.left };

@@ -10,7 +10,7 @@ ghost use Rattle.portal.specs.declared.target.BeginFault.TheVariants as faults;
 
 use crate::attached::Attached;
 use crate::connection::Connection;
-use crate::device::TargetDevice;
+use crate::device::{TargetDevice, Turn};
 use crate::gate::Gate;
 use crate::live::EnterFault;
 use crate::sessions::Sessions;
@@ -262,8 +262,8 @@ fn enter<R: Wait, S: Sessions<C>, C: Connection>(
     sessions.enter(rt, port, group, kind, connection)
 }
 
-// Attaches a normal session to all units; then it begins to live: its number and its TSIH. Where a unit or the table refuses it, it
-// is over at all units. What was seen then is kept.
+// Attaches a normal session, which has its turn, to all units; then it begins to live: its number and its TSIH. Where a unit or the
+// table refuses it, it is over at all units. What was seen then is kept.
 fn attach_and_enter<
     R: Wait,
     U: LogicalUnits<P, H>,
@@ -272,6 +272,7 @@ fn attach_and_enter<
     P: Pass,
     H: Drop,
 >(
+    _turn: &mut Turn,
     rt: &R,
     alloc: Global,
     units: &U,
@@ -361,8 +362,9 @@ impl<
         let Ok(()) = self.seen.reserve_exact(usize::from(device.units.count())) else {
             return Err(BeginFault::NoMemory);
         };
-        let _turn = device.beginning.lock(self.rt);
+        let mut turn = device.beginning.lock(self.rt);
         match attach_and_enter(
+            &mut turn,
             self.rt,
             self.alloc,
             &device.units,

@@ -1,7 +1,7 @@
 //! Tests of the array and of the program that serves it. Over real files, through the portals of both controllers (`whole`); of what
-//! needs no file: words, the texts of faults, the console, and the lines of the log (`words`, `lines`, `log_lines`). Over the
-//! loopback, through portals that a test opens over units in memory or in its files (`portals`). Without a portal, by what both
-//! controllers call: units that threads share, desks, moves, and the pure world (`controllers`).
+//! needs no disk: words, the texts of faults, the console, and the log (`words`, `lines`, `log_lines`, `log_writer`). Over the loopback,
+//! through portals that a test opens over units in memory or in its files (`portals`). Without a portal, by what both controllers
+//! call: units that threads share, desks, moves, and the pure world (`controllers`).
 #![tactic(auto)]
 
 #[cfg(test)]
@@ -16,6 +16,8 @@ mod hosts;
 mod lines;
 #[cfg(test)]
 mod log_lines;
+#[cfg(test)]
+mod log_writer;
 #[cfg(test)]
 mod memory;
 #[cfg(test)]

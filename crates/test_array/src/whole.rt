@@ -226,7 +226,7 @@ fn units_have_their_files_and_portals_their_groups(rt: HostRuntime) -> Result<()
             HostRuntime,
             Console<'_, HostRuntime>,
             Vec<u8>,
-        >(&rt, alloc, &options, array, &log, reader, &mut said);
+        >(&rt, alloc, &options, array, &log, None, reader, &mut said);
         assert!(rt; end.is_ok());
         compare(&rt, alloc, &visited, said.as_slice(), hosts.as_mut_slice())?;
     }

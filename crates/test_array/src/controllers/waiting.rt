@@ -1,10 +1,11 @@
-//! A desk without lanes: 64 jobs, one more, and none once it is closed; the jobs come back in their order.
+//! A desk without lanes: 64 jobs, one more, and none once it is closed; the jobs come back in their order. Commands that are served at
+//! once, one after the other, find no desk full.
 use crate::controllers::any_array::End;
 use crate::controllers::runs::perform;
-use crate::controllers::script::Asks::Spare;
-use crate::controllers::script::Deed::{Attach, Close, Collect, HandIn, ServeFirst};
+use crate::controllers::script::Asks::{Spare, Test};
+use crate::controllers::script::Deed::{AtDesk, Attach, Close, Collect, HandIn, ServeFirst};
 use crate::controllers::script::Told::{Done, Ends, Job, NoJob};
-use crate::controllers::script::{Line, POWER_ON, WAITS};
+use crate::controllers::script::{GOOD, Line, POWER_ON, WAITS};
 use scsi_types::Group::{One, Two};
 use std::alloc::{AllocError, Global};
 use std::test::*;
@@ -12,10 +13,15 @@ use std::test::*;
 /// So many jobs wait at a desk.
 const PLACES: usize = 64;
 
-// One more is not taken in, nor any once the desk is closed.
+// One more is not taken in, nor any once the desk is closed. A worker serves at once, past those that wait, as often as it comes.
 const REFUSED: &[Line] = &[
     Line(Attach(0, One), Done),
     Line(HandIn(PLACES, Spare), Ends(End::Full)),
+    Line(AtDesk(PLACES, Test), POWER_ON),
+    Line(AtDesk(PLACES, Test), GOOD),
+    Line(AtDesk(PLACES, Test), GOOD),
+    Line(AtDesk(PLACES, Test), GOOD),
+    Line(AtDesk(PLACES, Test), GOOD),
     Line(Close, Done),
     Line(Attach(1, One), Done),
     Line(HandIn(PLACES + 1, Spare), Ends(End::Closed)),

@@ -3,6 +3,7 @@ ghost use Rattle.std.specs.Prelude.{[], false};
 
 use crate::memory::latch::Latch;
 use block_file::{Blocks, DeviceFailed};
+use disk_preparer::OnDisk;
 use std::alloc::Global;
 use std::sync::{Arc, Wait};
 
@@ -12,6 +13,10 @@ pub struct HeldBlocks<B: Blocks, R: Wait + Drop> {
     pub inner: B,
     pub unit: usize,
     pub latch: Arc<Latch<R>, Global>,
+}
+
+impl<B: Blocks, R: Wait + Drop> OnDisk for HeldBlocks<B, R> {
+    ghost disk = { λ d. record { device = 0; number = 0 } };
 }
 
 impl<B: Blocks, R: Wait + Drop> Blocks for HeldBlocks<B, R> {

@@ -99,7 +99,7 @@ fn serve<
     group: Group,
     stacks: NoRoom,
 ) -> Served {
-    start_lanes::<N, B, F, O, Doors<R>, R, SmallStacks>(
+    let _lanes = start_lanes::<N, B, F, O, Doors<R>, R, SmallStacks>(
         rt,
         alloc,
         server,

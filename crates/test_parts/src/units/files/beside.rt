@@ -40,9 +40,9 @@ fn a_flush_of_the_device_beside_one_that_failed_is_not_believed(rt: HostRuntime)
     neither_is_done(&rt, &mut device, &beside.expect(&rt, "memory"));
 }
 
-fn neither_is_done(
+fn neither_is_done<B: Blocks + Send>(
     rt: &(impl Threads + Wait + Abort + Sync),
-    device: &mut FileBlocks<Flushed>,
+    device: &mut B,
     beside: &Flushes<Flushed>,
 ) {
     let (device, beside) = join(

@@ -1,7 +1,7 @@
 //! Each call on a file of the system, by handles and on files by which the system cannot do it: so each is that call.
 use crate::ends::must;
-use disk_files::{BackingFile, FileBlocks, LastingFile, SystemFile};
-use std::fs::{File, OpenFile};
+use disk_files::{BackingFile, FileBlocks, LastingFile, SystemFile, give_name, make_name_last};
+use std::fs::{self, File, OpenFile};
 use std::process::Abort;
 use std::rt::Files;
 
@@ -44,4 +44,22 @@ fn each_call_is_one_of_the_system(rt: HostRuntime) {
         let end = end(&mut file, words.next().unwrap_or(""));
         must(&rt, end.err() == error.parse().ok(), "a call", &row);
     }
+}
+
+// By whose flush a name would last.
+fn lasts<R: Files<File = File> + Abort>(rt: &R, folder: &str) -> bool {
+    drop(File::create(rt, "begun").expect(rt, "a file"));
+    match give_name(rt, "begun", "named") {
+        Ok(()) => make_name_last(rt, folder, "named"),
+        Err(_) => false,
+    }
+}
+
+// By its own folder, and by none that cannot be flushed or is not there.
+#[test]
+fn a_name_lasts_by_a_flush_of_its_folder(rt: HostRuntime) {
+    must(&rt, lasts(&rt, "."), "a folder", &".");
+    must(&rt, !lasts(&rt, "/proc/self"), "a folder", &"/proc/self");
+    must(&rt, !lasts(&rt, "none"), "a folder", &"none");
+    fs::remove_file(&rt, "named").expect(&rt, "a file");
 }

@@ -1,8 +1,8 @@
 use Rattle.std.proofs.Common.{◌&&◌, ℕ, subst}
-use Rattle.unit_history.specs.Calls.{IsShown}
+use Rattle.array_units.specs.Rows.{IsRead}
 use Rattle.array_units.proofs.units.Units.read.Goals as goal
 
 pub returns : goal.returns
 returns g c =
-    subst (λ (p : ℕ). IsShown (g.O.Opener.claims && g.B.Blocks.claims) (g.N.Array.opening p) c.read.result) c.at.ensures
+    subst (λ (p : ℕ). IsRead (g.O.Opener.claims && g.B.Blocks.claims) (g.N.Array.opening p) p c.read.result) c.at.ensures
     c.read.ensures

@@ -1,0 +1,250 @@
+//! What is seen of the array from outside.
+
+use array_units::Units;
+use block_file::{Blocks, Opener};
+use command_line::Options;
+use event_log::{BOUNDS, Seen};
+use portal::{Controllers, Server};
+use scsi_types::Group;
+use status::Row;
+use std::alloc::{AllocError, Global};
+use std::net::SocketAddrV4;
+use std::sync::{Arc, Wait};
+use std::time::{Clock, Duration};
+use unit_history::Opened;
+use unit_sequence::Array as Naming;
+use window::{Controller, Session, Sight, Signs, Unit, View};
+
+/// What the array was asked to be, as it is shown.
+#[derive(Drop)]
+struct Asked {
+    version: &'static str,
+    target: String,
+    array: u64,
+    disks: Vec<String>,
+}
+
+/// Who sees the array while it is served.
+pub(crate) struct Lookout<
+    R: Wait + Clock + Drop,
+    B: Blocks,
+    F: Blocks,
+    O: Opener<B>,
+    N: Naming<Opened>,
+    G: Drop,
+> {
+    rt: R,
+    server: Arc<Server<Controllers<B, F, O, N>, G>, Global>,
+    asked: Asked,
+    // When it began to be served: after the beginning of 1970, and of the clock that never goes back.
+    since: Duration,
+    began: Duration,
+}
+
+impl<R: Wait + Clock + Drop, B: Blocks, F: Blocks, O: Opener<B>, N: Naming<Opened>, G: Drop> Drop
+    for Lookout<R, B, F, O, N, G> {
+    fn drop(self) {
+        let Self {
+            rt: _,
+            server: _,
+            asked: _,
+            since: _,
+            began: _,
+        } = self;
+    }
+}
+
+// What the words ask for, as it is shown.
+fn asked_by(
+    alloc: Global,
+    options: &Options<'_>,
+    version: &'static str,
+) -> Result<Asked, AllocError> {
+    let mut disks = Vec::new(alloc);
+    for path in &options.paths {
+        disks.push(window::spelled(alloc, path.as_bytes())?)?;
+    }
+    Ok(Asked {
+        version,
+        target: window::spelled(alloc, options.target.as_bytes())?,
+        array: u64::from(options.array),
+        disks,
+    })
+}
+
+// The name at a place, and the one with `.reg` behind it.
+fn files_of(alloc: Global, disks: &[String], place: usize) -> Result<(String, String), AllocError> {
+    let disk = match disks.get(place) {
+        Some(disk) => disk.clone()?,
+        None => String::new(alloc),
+    };
+    let mut file = disk.clone()?;
+    file.push_str(".reg")?;
+    Ok((disk, file))
+}
+
+// A unit.
+fn unit_of(
+    alloc: Global,
+    place: usize,
+    row: Row,
+    disks: &[String],
+    seen: &Seen,
+) -> Result<Unit, AllocError> {
+    let (disk, registration_file) = files_of(alloc, disks, place)?;
+    let of_first = place.saturating_mul(2);
+    let first = window::route(alloc, 1, row.states.0, seen.counts.get(of_first))?;
+    let second = window::route(
+        alloc,
+        2,
+        row.states.1,
+        seen.counts.get(of_first.saturating_add(1)),
+    )?;
+    let mut paths = Vec::new(alloc);
+    paths.push(first)?;
+    paths.push(second)?;
+    let oldest = seen.oldest.get(place).copied().unwrap_or(0);
+    let signs = Signs::of(&seen.happened, place, oldest);
+    Ok(Unit {
+        unit: place as u64,
+        owner: row.owner,
+        generation: row.generation,
+        registrants: row.registrants,
+        reservation_type: row.kind,
+        entries: row.entries,
+        disk,
+        registration_file,
+        blocks: seen.happened.blocks.get(place).copied().unwrap_or(0),
+        health: window::health_words(&signs),
+        troubles: window::trouble_tallies(alloc, &signs)?,
+        disk_failures: window::failures(alloc, &signs.disk)?,
+        registration_failures: window::failures(alloc, &signs.registrations)?,
+        oldest_command_micros: oldest,
+        paths,
+    })
+}
+
+// A controller with its portals, and how many of these sessions came by it.
+fn controller_of(
+    alloc: Global,
+    group: Group,
+    portals: &[SocketAddrV4],
+    seen: &Seen,
+) -> Result<Controller, AllocError> {
+    let tag = u64::from(group.number());
+    let mut addresses = Vec::new(alloc);
+    for portal in portals {
+        addresses.push(format!(in alloc; "{portal}")?)?;
+    }
+    let mut sessions = 0u64;
+    for session in &seen.sessions {
+        if u64::from(session.path.tag) == tag {
+            sessions = sessions.saturating_add(1);
+        }
+    }
+    Ok(Controller {
+        controller: tag,
+        portals: addresses,
+        sessions,
+    })
+}
+
+// Sessions.
+fn sessions_of(alloc: Global, seen: &Seen) -> Result<Vec<Session>, AllocError> {
+    let mut sessions = Vec::with_capacity(alloc, seen.sessions.len())?;
+    for session in &seen.sessions {
+        sessions.push(window::session(alloc, session)?)?;
+    }
+    Ok(sessions)
+}
+
+// The units, as their boards show them.
+fn units_of<R: Wait, B: Blocks, F: Blocks, O: Opener<B>, N: Naming<Opened>>(
+    rt: &R,
+    alloc: Global,
+    units: &Units<B, F, O, N>,
+    disks: &[String],
+    seen: &Seen,
+) -> Result<Vec<Unit>, AllocError> {
+    let mut found = Vec::new(alloc);
+    for place in 0..units.count() {
+        let row = units.read(rt, place);
+        found.push(unit_of(alloc, place, row, disks, seen)?)?;
+    }
+    Ok(found)
+}
+
+// A count of microseconds.
+fn micros(time: Duration) -> u64 {
+    u64::try_from(time.as_micros()).unwrap_or(u64::MAX)
+}
+
+impl<
+    R: Wait + Clock + Drop,
+    B: Blocks,
+    F: Blocks,
+    O: Opener<B>,
+    N: Naming<Opened>,
+    G: Drop,
+> Lookout<R, B, F, O, N, G> {
+    /// Who sees what this serves, from now on.
+    pub(crate) fn new(
+        rt: R,
+        alloc: Global,
+        options: &Options<'_>,
+        version: &'static str,
+        server: Arc<Server<Controllers<B, F, O, N>, G>, Global>,
+    ) -> Result<Lookout<R, B, F, O, N, G>, AllocError> {
+        let since = rt.since_1970().unwrap_or(Duration::ZERO);
+        let began = rt.monotonic().unwrap_or(Duration::ZERO);
+        Ok(Lookout {
+            rt,
+            server,
+            asked: asked_by(alloc, options, version)?,
+            since,
+            began,
+        })
+    }
+
+    // What is counted now.
+    fn seen(&self, alloc: Global, now: Duration) -> Result<Seen, AllocError> {
+        match self.server.log.meters() {
+            Some(meters) => meters.look(&self.rt, alloc, now),
+            None => Err(AllocError),
+        }
+    }
+}
+
+impl<R: Wait + Clock + Drop, B: Blocks, F: Blocks, O: Opener<B>, N: Naming<Opened>, G: Drop> Sight
+    for Lookout<R, B, F, O, N, G> {
+    fn look(&self, alloc: Global) -> Result<View, AllocError> {
+        let now = self.rt.monotonic().unwrap_or(self.began);
+        let seen = self.seen(alloc, now)?;
+        let server = &self.server;
+        let units = units_of(
+            &self.rt,
+            alloc,
+            server.device.units.units(),
+            &self.asked.disks,
+            &seen,
+        )?;
+        let mut controllers = Vec::new(alloc);
+        controllers.push(controller_of(alloc, Group::One, &server.first, &seen)?)?;
+        controllers.push(controller_of(alloc, Group::Two, &server.second, &seen)?)?;
+        let problems = window::problems(alloc, &units, server.log.is_failing())?;
+        Ok(View {
+            version: self.asked.version,
+            target: self.asked.target.clone()?,
+            array: self.asked.array,
+            since: self.since.as_secs(),
+            uptime_micros: micros(now.saturating_sub(self.began)),
+            controllers,
+            units,
+            sessions: sessions_of(alloc, &seen)?,
+            logins: seen.happened.logins,
+            refused_logins: window::refusals(alloc, &seen.happened.refused)?,
+            bounds_micros: Vec::from_slice(alloc, &BOUNDS)?,
+            problems,
+        })
+    }
+}

@@ -1,0 +1,263 @@
+//! A device whose calls have a deadline.
+ghost use Rattle.std.specs.Prelude.{◌≡◌, ◌<◌, ◌≤◌, ◌+◌, ◌^◌, true, [], false, min, length, IfOk, IsErr, IsTrue, OnOk, OnErr};
+ghost use Rattle.std.proofs.Common.{arith};
+ghost use Rattle.block_file.specs.Cut.{IsRun};
+ghost use Rattle.block_file.specs.Failures.{Counts, last_count};
+ghost use Rattle.deadline.specs.Answers.{HasAnswered, HasFlushed, HasOpened, HasRead, HasWritten};
+
+use crate::errand::{Errand, Served, Wanted};
+use crate::hatch::Asker;
+use crate::watch::Watch;
+use block_file::{Blocks, DeviceFailed, Opener};
+use disk_preparer::{Node, OnDisk};
+use event_log::Call;
+use std::alloc::Global;
+use std::io;
+use std::sync::{Arc, Mutex, Wait};
+use std::thread::Threads;
+use std::time::Clock;
+
+/// A device whose calls its thread makes. One that does not come back in time has failed, and so does each later one.
+///
+/// What is answered is what the device answered, or that it failed. Of its contents nothing is claimed: a write that has failed for
+/// time may land at any moment, and no read is ever answered behind it.
+pub struct Deadlined<R: Wait + Clock + Drop, B: Blocks, O: Opener<B>> {
+    rt: R,
+    asker: Mutex<Asker<R, Errand<B, O>>>,
+    count: u32,
+    // Which file the device is over.
+    node: Node,
+    pub(crate) opened: u64,
+    failed_reads: u64,
+    failed_writes: u64,
+    ghost fits: { count < 2 ^ 32 },
+    ghost some: { 0 < count },
+}
+
+impl<R: Wait + Clock + Drop, B: Blocks, O: Opener<B>> Drop for Deadlined<R, B, O> {
+    fn drop(self) {
+        let Self {
+            rt: _,
+            asker: _,
+            count: _,
+            node: _,
+            opened: _,
+            failed_reads: _,
+            failed_writes: _,
+        } = self;
+    }
+}
+
+impl<
+    R: Threads + Wait + Clock + Clone + Drop + Send + 'static,
+    B: Blocks + OnDisk + Send + 'static,
+    O: Opener<B> + Send + 'static,
+> Deadlined<R, B, O> {
+    /// Hands a device, which is over this file, and what opens it anew, to a thread of its own.
+    pub fn start(
+        rt: &R,
+        alloc: Global,
+        blocks: B,
+        opener: O,
+        node: Node,
+        watch: &Arc<Watch, Global>,
+    ) -> io::Result<Deadlined<R, B, O>>
+        requires some { 0 < B.size blocks }
+        requires disk { node ≡ B.OnDisk.disk blocks }
+        ensures disk { IfOk result (λ d. d.node ≡ node) }
+        ensures unused { IfOk result (λ d. (d.count ≡ B.size blocks) × (d.opened ≡ 0) × (d.failed_reads ≡ 0) × (d.failed_writes ≡ 0)) }
+    {
+        let count = blocks.count();
+        let errand = Errand::new(alloc)?;
+        let served = Served { blocks, opener };
+        let asker = Asker::start(rt, alloc, served, errand, watch)?;
+        Ok(Deadlined {
+            rt: rt.clone()?,
+            asker: Mutex::new(asker),
+            count,
+            node,
+            opened: 0,
+            failed_reads: 0,
+            failed_writes: 0,
+        })
+    }
+}
+
+// Reads a run, by the thread of the device.
+fn read_by<R: Wait + Clock + Drop, B: Blocks, O: Opener<B>>(
+    asker: &mut Asker<R, Errand<B, O>>,
+    first: u32,
+    bytes: &mut [u8],
+) -> bool
+    ensures { IsTrue result → HasRead B.claims B.contents first bytes.new }
+{
+    let wanted = Wanted::Read(first);
+    let Some(errand) = asker.take() else {
+        return false;
+    };
+    let Some(answered) = asker.ask(errand.with_room(wanted, bytes.len()), Call::Read) else {
+        return false;
+    };
+    let is_read = answered.gives(wanted, bytes);
+    asker.keep(answered);
+    is_read
+}
+
+// Writes a run, by the thread of the device.
+fn write_by<R: Wait + Clock + Drop, B: Blocks, O: Opener<B>>(
+    asker: &mut Asker<R, Errand<B, O>>,
+    first: u32,
+    bytes: &[u8],
+) -> bool {
+    let wanted = Wanted::Write(first);
+    let Some(errand) = asker.take() else {
+        return false;
+    };
+    let Some(answered) = asker.ask(errand.with_bytes(wanted, bytes), Call::Write) else {
+        return false;
+    };
+    let is_written = answered.has_done_all(wanted, bytes.len());
+    asker.keep(answered);
+    is_written
+}
+
+// Flushes the device, by its thread.
+fn flush_by<R: Wait + Clock + Drop, B: Blocks, O: Opener<B>>(
+    asker: &mut Asker<R, Errand<B, O>>,
+) -> bool
+    ensures { IsTrue result → HasFlushed B.claims B.contents B.may_hold }
+{
+    let Some(errand) = asker.take() else {
+        return false;
+    };
+    let Some(answered) = asker.ask(errand.with_room(Wanted::Flush, 0), Call::Flush) else {
+        return false;
+    };
+    let is_flushed = answered.has_done(Wanted::Flush);
+    asker.keep(answered);
+    is_flushed
+}
+
+// Opens the device anew, by its thread.
+fn open_by<R: Wait + Clock + Drop, B: Blocks, O: Opener<B>>(
+    asker: &mut Asker<R, Errand<B, O>>,
+) -> bool
+    ensures { IsTrue result → HasOpened O.opened }
+{
+    let Some(errand) = asker.take() else {
+        return false;
+    };
+    let Some(answered) = asker.ask(errand.with_room(Wanted::Open, 0), Call::Open) else {
+        return false;
+    };
+    let is_opened = answered.has_done(Wanted::Open);
+    asker.keep(answered);
+    is_opened
+}
+
+impl<R: Wait + Clock + Drop, B: Blocks, O: Opener<B>> Deadlined<R, B, O> {
+    // Whether the device was opened anew.
+    pub(crate) fn is_opened_anew(&self) -> bool
+        ensures { IsTrue result → HasOpened O.opened }
+    {
+        open_by(&mut self.asker.lock(&self.rt))
+    }
+}
+
+impl<R: Wait + Clock + Drop, B: Blocks, O: Opener<B>> OnDisk for Deadlined<R, B, O> {
+    ghost disk = { λ d. d.node };
+}
+
+// Counts a call that failed.
+fn ended(is_done: bool, failed: &mut u64) -> Result<(), DeviceFailed>
+    ensures ok { OnOk result (is_done ≡ true × failed.new ≡ failed.old) }
+    ensures err { OnErr result (failed.new ≡ min (failed.old + 1) last_count) }
+{
+    if is_done {
+        return Ok(());
+    }
+    *failed = failed.saturating_add(1);
+    Err(DeviceFailed)
+}
+
+impl<R: Wait + Clock + Drop, B: Blocks, O: Opener<B>> Blocks for Deadlined<R, B, O> {
+    ghost claims = { false };
+
+    ghost claims_moments = { false };
+
+    ghost size = { λ d. d.count };
+
+    ghost contents = { λ d. [] };
+
+    ghost may_hold = { λ d k value. Unit {0} };
+
+    ghost moment = { λ d. 0 };
+
+    ghost left_since = { λ d t disk. Unit {0} };
+
+    ghost reads_failed = { λ d. min d.failed_reads last_count };
+
+    ghost writes_failed = { λ d. min d.failed_writes last_count };
+
+    ghost failures = { λ d. min (d.failed_reads + d.failed_writes) last_count };
+
+    ghost fits = { λ d. d.fits };
+
+    ghost summed = { λ d. Prim.omega arith };
+
+    ghost bounded = { λ d. Prim.omega arith };
+
+    ghost sized = { λ d h. Prim.cc };
+
+    ghost wide = { λ d k h. Prim.cc };
+
+    ghost is_outcome = { λ d k h lt. tt };
+
+    ghost counts_now = { λ d t disk h. Prim.cc };
+
+    ghost only_now = { λ d disk h. Prim.cc };
+
+    fn count(&self) -> u32 {
+        self.count
+    }
+
+    fn read_run(&mut self, first: u32, bytes: &mut [u8]) -> Result<(), DeviceFailed>
+        requires { IsRun self.old.count first (length bytes.old) }
+        ensures size { self.new.count ≡ self.old.count }
+        ensures answered { OnOk result (HasRead B.claims B.contents first bytes.new) }
+        ensures failures { Counts (min (self.old.failed_reads + self.old.failed_writes) last_count)
+            (min (self.new.failed_reads + self.new.failed_writes) last_count) result }
+        ensures failed_reads { Counts (min self.old.failed_reads last_count) (min self.new.failed_reads last_count) result }
+        ensures failed_writes { self.new.failed_writes ≡ self.old.failed_writes }
+        ensures opened { (self.new.opened ≡ self.old.opened) × (self.new.node ≡ self.old.node) }
+    {
+        let is_read = read_by(&mut self.asker.lock(&self.rt), first, bytes);
+        ended(is_read, &mut self.failed_reads)
+    }
+
+    fn write_run(&mut self, first: u32, bytes: &[u8]) -> Result<(), DeviceFailed>
+        requires { IsRun self.old.count first (length bytes.now) }
+        ensures size { self.new.count ≡ self.old.count }
+        ensures failures { Counts (min (self.old.failed_reads + self.old.failed_writes) last_count)
+            (min (self.new.failed_reads + self.new.failed_writes) last_count) result }
+        ensures failed_reads { self.new.failed_reads ≡ self.old.failed_reads }
+        ensures failed_writes { Counts (min self.old.failed_writes last_count) (min self.new.failed_writes last_count) result }
+        ensures opened { (self.new.opened ≡ self.old.opened) × (self.new.node ≡ self.old.node) }
+    {
+        let is_written = write_by(&mut self.asker.lock(&self.rt), first, bytes);
+        ended(is_written, &mut self.failed_writes)
+    }
+
+    fn flush(&mut self) -> Result<(), DeviceFailed>
+        ensures size { self.new.count ≡ self.old.count }
+        ensures answered { OnOk result (HasFlushed B.claims B.contents B.may_hold) }
+        ensures failures { Counts (min (self.old.failed_reads + self.old.failed_writes) last_count)
+            (min (self.new.failed_reads + self.new.failed_writes) last_count) result }
+        ensures failed_reads { self.new.failed_reads ≡ self.old.failed_reads }
+        ensures failed_writes { Counts (min self.old.failed_writes last_count) (min self.new.failed_writes last_count) result }
+        ensures opened { (self.new.opened ≡ self.old.opened) × (self.new.node ≡ self.old.node) }
+    {
+        let is_flushed = flush_by(&mut self.asker.lock(&self.rt));
+        ended(is_flushed, &mut self.failed_writes)
+    }
+}

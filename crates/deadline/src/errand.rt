@@ -1,0 +1,179 @@
+//! What the thread of a device is asked, and what it does.
+ghost use Rattle.std.specs.Prelude.{◌≡◌, true, length, IsTrue};
+ghost use Rattle.block_file.specs.Cut.{IsRun};
+ghost use Rattle.deadline.specs.Answers.{HasAnswered, HasFlushed, HasOpened, HasRead, HasWritten};
+
+use crate::hatch::Runner;
+use block_file::{BLOCK_LENGTH, Blocks, Opener};
+use std::alloc::{AllocError, Global};
+use std::marker::{Model, PhantomData};
+
+/// The most bytes of a run: 2048 blocks.
+const LONGEST: usize = 2048 * BLOCK_LENGTH;
+
+/// A call of a device, from this block on where it has a run; or that it is opened anew.
+#[derive(Clone, Copy, PartialEq, Eq)]
+pub(crate) enum Wanted {
+    Read(u32),
+    Write(u32),
+    Flush,
+    Open,
+}
+
+/// What the thread of a device is asked, with the bytes of the run; and whether that was done, and went well.
+#[derive(Drop)]
+pub(crate) struct Errand<B: Blocks, O: Opener<B>> {
+    wanted: Wanted,
+    bytes: Vec<u8>,
+    is_done: bool,
+    of: PhantomData<(B, O)>,
+}
+
+impl<B: Blocks, O: Opener<B>> Model for Errand<B, O> {
+    ghost use Rattle.std.specs.Prelude.{◌≡◌, true};
+    ghost use Rattle.deadline.specs.Answers.{ErrandValue, HasAnswered};
+
+    ghost Value = { ErrandValue };
+
+    ghost view = { λ e. record { wanted = e.wanted; bytes = e.bytes.items; is_done = e.is_done } };
+
+    ghost invariant = { λ e. e.is_done ≡ true
+        → HasAnswered B.claims B.contents B.may_hold O.opened e.wanted e.bytes.items };
+}
+
+impl<B: Blocks, O: Opener<B>> Errand<B, O> {
+    /// With room for the longest run.
+    pub(crate) fn new(alloc: Global) -> Result<Errand<B, O>, AllocError> {
+        let bytes = Vec::with_capacity(alloc, LONGEST)?;
+        Ok(Errand {
+            wanted: Wanted::Flush,
+            bytes,
+            is_done: false,
+            of: PhantomData,
+        })
+    }
+
+    /// Asks for this, with room for so many bytes. The room may be wanting.
+    pub(crate) fn with_room(self, wanted: Wanted, length: usize) -> Errand<B, O> {
+        let mut bytes = self.bytes;
+        let _ = bytes.resize(length, 0);
+        Errand {
+            wanted,
+            bytes,
+            is_done: false,
+            of: PhantomData,
+        }
+    }
+
+    /// Asks for this, with these bytes. Their room may be wanting.
+    pub(crate) fn with_bytes(self, wanted: Wanted, part: &[u8]) -> Errand<B, O> {
+        let mut bytes = self.bytes;
+        bytes.clear();
+        let _ = bytes.extend_from_slice(part);
+        Errand {
+            wanted,
+            bytes,
+            is_done: false,
+            of: PhantomData,
+        }
+    }
+
+    /// Whether this was wanted, and was done.
+    pub(crate) fn has_done(&self, wanted: Wanted) -> bool
+        ensures { IsTrue result
+            → HasAnswered B.claims B.contents B.may_hold O.opened wanted self.now.bytes }
+    {
+        self.is_done && self.wanted == wanted
+    }
+
+    /// Whether this was wanted, and was done with so many bytes.
+    pub(crate) fn has_done_all(&self, wanted: Wanted, length: usize) -> bool {
+        self.has_done(wanted) && self.bytes.len() == length
+    }
+
+    /// Gives the bytes, where this was wanted, and was done with so many.
+    pub(crate) fn gives(&self, wanted: Wanted, bytes: &mut [u8]) -> bool
+        ensures { IsTrue result → HasAnswered B.claims B.contents B.may_hold O.opened wanted bytes.new }
+    {
+        if !self.has_done(wanted) || self.bytes.len() != bytes.len() {
+            return false;
+        }
+        bytes.copy_from_slice(self.bytes.as_slice());
+        true
+    }
+}
+
+/// A device with its opener, as its thread has them.
+#[derive(Drop)]
+pub(crate) struct Served<B: Blocks, O: Opener<B>> {
+    pub(crate) blocks: B,
+    pub(crate) opener: O,
+}
+
+// Whether so many bytes from a block on are a run of whole blocks of a device of so many.
+fn is_run(count: u32, first: u32, length: usize) -> bool
+    ensures { IsTrue result → IsRun count first length }
+{
+    let blocks = length / BLOCK_LENGTH;
+    if blocks * BLOCK_LENGTH != length {
+        return false;
+    }
+    first as usize + blocks <= count as usize
+}
+
+impl<B: Blocks, O: Opener<B>> Served<B, O> {
+    fn read(&mut self, first: u32, bytes: &mut [u8]) -> bool
+        ensures { IsTrue result → HasRead B.claims B.contents first bytes.new }
+    {
+        is_run(self.blocks.count(), first, bytes.len())
+            && self.blocks.read_run(first, bytes).is_ok()
+    }
+
+    fn write(&mut self, first: u32, bytes: &[u8]) -> bool
+        ensures { IsTrue result → HasWritten B.claims B.contents first bytes.now }
+    {
+        is_run(self.blocks.count(), first, bytes.len())
+            && self.blocks.write_run(first, bytes).is_ok()
+    }
+
+    fn flush(&mut self) -> bool
+        ensures { IsTrue result → HasFlushed B.claims B.contents B.may_hold }
+    {
+        match self.blocks.flush() {
+            Ok(()) => true,
+            Err(_) => false,
+        }
+    }
+
+    fn open(&mut self) -> bool
+        ensures { IsTrue result → HasOpened O.opened }
+    {
+        self.opener.open(&mut self.blocks).is_ok()
+    }
+
+    // Does what is wanted: whether it went well.
+    fn does(&mut self, wanted: Wanted, bytes: &mut Vec<u8>) -> bool
+        ensures { IsTrue result → HasAnswered B.claims B.contents B.may_hold O.opened wanted bytes.new.items }
+    {
+        match wanted {
+            Wanted::Read(first) => self.read(first, bytes.as_mut_slice()),
+            Wanted::Write(first) => self.write(first, bytes.as_slice()),
+            Wanted::Flush => self.flush(),
+            Wanted::Open => self.open(),
+        }
+    }
+}
+
+impl<B: Blocks, O: Opener<B>> Runner<Errand<B, O>> for Served<B, O> {
+    fn run(&mut self, errand: Errand<B, O>) -> Errand<B, O> {
+        let wanted = errand.wanted;
+        let mut bytes = errand.bytes;
+        let is_done = self.does(wanted, &mut bytes);
+        Errand {
+            wanted,
+            bytes,
+            is_done,
+            of: PhantomData,
+        }
+    }
+}

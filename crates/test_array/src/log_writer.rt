@@ -1,0 +1,111 @@
+//! The thread that writes the lines of a log: how many lines were lost is told behind the next that are written.
+use crate::ends::must;
+use event_log::{Event, Log, Page, close, start};
+use std::alloc::Global;
+use std::fs::{self, File, OpenFile};
+use std::io;
+use std::process::Abort;
+use std::rt::Files;
+use std::sync::atomic::{AtomicBool, AtomicU64, Ordering};
+use std::sync::{Arc, Wait};
+use std::thread::Parker;
+use std::time::Clock;
+
+const PATH: &str = "lines";
+
+/// What a page and its test share.
+#[derive(Drop)]
+struct Seen {
+    // Whether the page can be opened.
+    is_there: AtomicBool,
+    // How often it was asked for.
+    count: AtomicU64,
+    bell: Parker,
+}
+
+/// A page that is not there at first.
+#[derive(Drop)]
+struct Late<R: Files<File = File> + Drop> {
+    rt: R,
+    seen: Arc<Seen, Global>,
+}
+
+impl<R: Files<File = File> + Drop> Page for Late<R> {
+    fn open(&self) -> Option<File> {
+        let file = if self.seen.is_there.load(Ordering::SeqCst) {
+            File::options()
+                .append(true)
+                .create(true)
+                .open(&self.rt, PATH)
+                .ok()
+        } else {
+            None
+        };
+        self.seen.count.fetch_add(1, Ordering::SeqCst);
+        self.seen.bell.unpark();
+        file
+    }
+}
+
+// Waits until the page was asked for so often.
+fn wait<R: Wait>(rt: &R, seen: &Seen, count: u64) {
+    for _ in rt.forever() {
+        if seen.count.load(Ordering::SeqCst) >= count {
+            break;
+        }
+        seen.bell.park(rt);
+    }
+}
+
+// What a page and its test share at first.
+fn unseen(rt: &impl Abort, alloc: Global) -> Arc<Seen, Global> {
+    let seen = Seen {
+        is_there: AtomicBool::new(false),
+        count: AtomicU64::new(0),
+        bell: Parker::new(),
+    };
+    Arc::new(alloc, seen).expect(rt, "memory")
+}
+
+// Tells a line that cannot be written, and one that can: what is written.
+fn written<R: Files<File = File> + Wait + Clock + Abort>(
+    rt: &R,
+    alloc: Global,
+    log: &Log,
+    seen: &Seen,
+) -> String {
+    log.tell(rt, &Event::Ready);
+    wait(rt, seen, 2);
+    seen.is_there.store(true, Ordering::SeqCst);
+    log.tell(rt, &Event::Stopping);
+    close(rt, log);
+    let file = File::open(rt, PATH).expect(rt, "lines");
+    let text = io::read_to_string(alloc, file).expect(rt, "lines");
+    fs::remove_file(rt, PATH).expect(rt, "lines");
+    text
+}
+
+#[test]
+fn lines_that_were_lost_are_told(rt: HostRuntime) {
+    let alloc = rt.alloc();
+    let seen = unseen(&rt, alloc);
+    let page = Late {
+        rt: rt.clone().expect(&rt, "memory"),
+        seen: Arc::try_clone(&seen).expect(&rt, "memory"),
+    };
+    let log = Log::new(alloc).expect(&rt, "memory");
+    // What threads may do is known here alone.
+    start::<HostRuntime, Late<HostRuntime>>(&rt, alloc, &log, page).expect(&rt, "a thread");
+    let text = written(&rt, alloc, &log, &seen);
+    let mut events = text
+        .lines()
+        .map(|line| line.rsplit_once(" event=").unwrap_or(("", "")).1);
+    must(&rt, events.next() == Some("stopping"), "first", &text);
+    must(
+        &rt,
+        events.next() == Some("dropped lines=1"),
+        "second",
+        &text,
+    );
+    must(&rt, events.next().is_none(), "more", &text);
+}

@@ -1,0 +1,120 @@
+-- A line has printing characters alone, whatever a host or a path is called.
+use Rattle.std.proofs.Common.{◌≡◌, ℕ, zero, suc, ◌<◌, ◌/◌, ◌%◌, List, [], ◌∷◌, ◌++◌, Bool, true, false, ◌&&◌, ◌∙◌, refl, arith}
+use Rattle.std.specs.Bool.{◌==◌}
+use Rattle.std.specs.Prelude.{nat_eq, if◌then◌else◌, codes}
+use Rattle.std.specs.List.{list_all, flat_map}
+use Rattle.std.specs.Fmt.{decimal, digits, digits_onto, digit_glyph}
+use Rattle.std.proofs.lemmas.Bool.Decides.{nat_tests}
+use Rattle.std.proofs.lemmas.List.Folds.{list_all-append}
+use Rattle.event_log.specs.Text.{is_plain, are_plain, hex_digit, hex}
+use Rattle.window.specs.Text.{spelled, word, label_onto, labels_onto, amount_onto, heading_onto, sample_onto}
+use Rattle.window.specs.declared.line.Label.{Label}
+use Rattle.window.specs.declared.line.Label.TheVariants as labels
+use Rattle.window.specs.declared.line.Amount.{Amount}
+use Rattle.window.specs.declared.line.Amount.TheVariants as amounts
+
+both : (a b : Bool) → a ≡ true → b ≡ true → (a && b) ≡ true
+both true b pa pb = pb
+both false b pa pb = absurd (cc)
+
+choose : (t : Bool) (x y : List ℕ) → are_plain x ≡ true → are_plain y ≡ true → are_plain (if t then x else y) ≡ true
+choose true x y px py = px
+choose false x y px py = py
+
+join : (a b : List ℕ) → are_plain a ≡ true → are_plain b ≡ true → are_plain (a ++ b) ≡ true
+join a b pa pb = list_all-append is_plain a b ∙ both (are_plain a) (are_plain b) pa pb
+
+-- ---- numbers
+
+glyph : (d : ℕ) → d < 16 → is_plain (digit_glyph false d) ≡ true
+glyph d lt = grind (arith, nat_tests)
+
+ten : (k n : ℕ) (acc : List ℕ) → are_plain acc ≡ true → are_plain (digits_onto k 10 false n acc) ≡ true
+ten zero n acc p = p
+ten (suc k) n acc p =
+    let q : are_plain (digit_glyph false (n % 10) ∷ acc) ≡ true =
+    both (is_plain (digit_glyph false (n % 10))) (are_plain acc) (glyph (n % 10) (omega arith)) p in
+    choose (n / 10 == 0) (digit_glyph false (n % 10) ∷ acc)
+    (digits_onto k 10 false (n / 10) (digit_glyph false (n % 10) ∷ acc)) q
+    (ten k (n / 10) (digit_glyph false (n % 10) ∷ acc) q)
+
+sixteen : (k n : ℕ) (acc : List ℕ) → are_plain acc ≡ true → are_plain (digits_onto k 16 false n acc) ≡ true
+sixteen zero n acc p = p
+sixteen (suc k) n acc p =
+    let q : are_plain (digit_glyph false (n % 16) ∷ acc) ≡ true =
+    both (is_plain (digit_glyph false (n % 16))) (are_plain acc) (glyph (n % 16) (omega arith)) p in
+    choose (n / 16 == 0) (digit_glyph false (n % 16) ∷ acc)
+    (digits_onto k 16 false (n / 16) (digit_glyph false (n % 16) ∷ acc)) q
+    (sixteen k (n / 16) (digit_glyph false (n % 16) ∷ acc) q)
+
+number : (n : ℕ) → are_plain (decimal n) ≡ true
+unfolding digits
+number n = ten 64 n [] refl
+
+hexed : (n : ℕ) → are_plain (hex n) ≡ true
+unfolding digits
+hexed n = sixteen 64 n [] refl
+
+-- ---- texts that may come from outside
+
+kept : (b : ℕ) (t : Bool) (x : List ℕ) → is_plain b ≡ t → are_plain x ≡ true → are_plain (if t then b ∷ [] else x) ≡ true
+kept b true x e p = both (is_plain b) true e refl
+kept b false x e p = p
+
+abbrev hidden_text : ℕ → List ℕ
+hidden_text b = 92 ∷ 92 ∷ 120 ∷ hex_digit (b / 16 % 16) ∷ hex_digit (b % 16) ∷ []
+
+abbrev visible : ℕ → List ℕ
+visible b = if is_plain b then b ∷ [] else hidden_text b
+
+abbrev behind_a_quote : ℕ → List ℕ
+behind_a_quote b = if nat_eq b 92 then codes "\\\\" else visible b
+
+hidden : (b : ℕ) → are_plain (hidden_text b) ≡ true
+hidden b =
+    both (is_plain (hex_digit (b / 16 % 16))) (are_plain (hex_digit (b % 16) ∷ [])) (glyph (b / 16 % 16) (omega arith))
+    (both (is_plain (hex_digit (b % 16))) true (glyph (b % 16) (omega arith)) refl)
+
+one : (b : ℕ) → are_plain (spelled b) ≡ true
+one b =
+    choose (nat_eq b 34) (codes "\\\"") (behind_a_quote b) refl (choose (nat_eq b 92) (codes "\\\\") (visible b) refl
+    (kept b (is_plain b) (hidden_text b) refl (hidden b)))
+
+many : (bytes : List ℕ) → are_plain (word bytes) ≡ true
+many [] = refl
+many (b ∷ bytes) = join (spelled b) (word bytes) (one b) (many bytes)
+
+-- ---- lines
+
+pair : (text name between value : List ℕ)
+    → are_plain text ≡ true → are_plain between ≡ true → are_plain value ≡ true
+    → are_plain ((((text ++ word name) ++ between) ++ value) ++ codes "\",") ≡ true
+pair text name between value pt pb pv =
+    join (((text ++ word name) ++ between) ++ value) (codes "\",")
+    (join ((text ++ word name) ++ between) value
+    (join (text ++ word name) between (join text (word name) pt (many name)) pb) pv) refl
+
+label : (text : List ℕ) (l : Label) → are_plain text ≡ true → are_plain (label_onto text l) ≡ true
+label text (labels.Number name n) p = pair text name.now (codes "=\"") (decimal n) p refl (number n)
+label text (labels.Hex name n) p = pair text name.now (codes "=\"0x") (hex n) p refl (hexed n)
+label text (labels.Word name value) p = pair text name.now (codes "=\"") (word value.now) p refl (many value.now)
+label text (labels.Name name value) p = pair text name.now (codes "=\"") (word value.now) p refl (many value.now)
+
+all_labels : (text : List ℕ) (ls : List Label) → are_plain text ≡ true → are_plain (labels_onto text ls) ≡ true
+all_labels text [] p = p
+all_labels text (l ∷ ls) p = all_labels (label_onto text l) ls (label text l p)
+
+amount : (text : List ℕ) (a : Amount) → are_plain text ≡ true → are_plain (amount_onto text a) ≡ true
+amount text (amounts.Count n) p = join text (decimal n) p (number n)
+amount text (amounts.Micros n) p = join (text ++ decimal n) (codes "e-6") (join text (decimal n) p (number n)) refl
+
+pub heading : (what name words : List ℕ) → are_plain what ≡ true → are_plain (heading_onto [] what name words) ≡ true
+heading what name words p =
+    join ((what ++ word name) ++ codes " ") (word words)
+    (join (what ++ word name) (codes " ") (join what (word name) p (many name)) refl) (many words)
+
+pub sample : (name : List ℕ) (ls : List Label) (a : Amount) → are_plain (sample_onto [] name ls a) ≡ true
+sample name ls a =
+    let front : List ℕ = word name ++ codes "{" in
+    let pf : are_plain front ≡ true = join (word name) (codes "{") (many name) refl in
+    amount (labels_onto front ls ++ codes "} ") a (join (labels_onto front ls) (codes "} ") (all_labels front ls pf) refl)

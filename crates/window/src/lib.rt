@@ -1,0 +1,25 @@
+//! A window on an array: what is seen of it, as Prometheus reads it, as JSON, in a line for each thing that is wrong, and as a page.
+//! It only tells; nothing that is asked of it changes anything.
+#![tactic(auto)]
+
+mod answer;
+mod clerk;
+mod html;
+pub mod laws;
+mod line;
+mod made;
+mod measures;
+mod serving;
+mod tables;
+mod troubles;
+mod view;
+
+pub use answer::{Wanted, asked_for};
+pub use clerk::{Clerk, Sight};
+pub use html::PAGE;
+pub use line::{Amount, Label, put_help, put_sample, put_type};
+pub use made::{failures, refusals, route, session, spelled};
+pub use measures::metrics;
+pub use serving::open;
+pub use troubles::{Signs, Trouble, health, health_words, problems, trouble_tallies};
+pub use view::{Commands, Controller, Route, Session, Tally, Unit, View, state_words};

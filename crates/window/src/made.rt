@@ -1,0 +1,102 @@
+//! What is counted, made into what is seen.
+
+use crate::view::{Commands, Route, Session, Tally, state_words};
+use event_log::{CALLS_IN_ORDER, CAUSES_IN_ORDER, Counts, IN_ORDER, SessionSeen, escape};
+use std::alloc::{AllocError, Global};
+
+/// A name as the log spells it.
+pub fn spelled(alloc: Global, name: &[u8]) -> Result<String, AllocError> {
+    let mut text = String::new(alloc);
+    escape(&mut text, name)?;
+    Ok(text)
+}
+
+// Operations, and how often each was counted.
+fn operations(alloc: Global, counts: &[u64]) -> Result<Vec<Tally>, AllocError> {
+    let mut tallies = Vec::new(alloc);
+    for (operation, count) in IN_ORDER.iter().zip(counts) {
+        tallies.push(Tally {
+            what: operation.text(),
+            count: *count,
+        })?;
+    }
+    Ok(tallies)
+}
+
+/// Calls of the system that failed, and how often each did.
+pub fn failures(alloc: Global, counts: &[u64]) -> Result<Vec<Tally>, AllocError> {
+    let mut tallies = Vec::new(alloc);
+    for (call, count) in CALLS_IN_ORDER.iter().zip(counts) {
+        tallies.push(Tally {
+            what: call.text(),
+            count: *count,
+        })?;
+    }
+    Ok(tallies)
+}
+
+/// What was lacking where logins were refused, and how often each was.
+pub fn refusals(alloc: Global, counts: &[u64]) -> Result<Vec<Tally>, AllocError> {
+    let mut tallies = Vec::new(alloc);
+    for (cause, count) in CAUSES_IN_ORDER.iter().zip(counts) {
+        tallies.push(Tally {
+            what: *cause,
+            count: *count,
+        })?;
+    }
+    Ok(tallies)
+}
+
+// What is counted of commands.
+fn commands(alloc: Global, counts: &Counts) -> Result<Commands, AllocError> {
+    Ok(Commands {
+        operations: operations(alloc, &counts.commands)?,
+        read_bytes: counts.read,
+        written_bytes: counts.written,
+        good: counts.good,
+        reservation_conflicts: counts.conflicts,
+        busy: counts.busy,
+        sense_keys: Vec::from_slice(alloc, &counts.checks)?,
+        flushes: counts.flushes,
+        failed_flushes: counts.failed_flushes,
+        buckets: Vec::from_slice(alloc, &counts.times)?,
+        micros: counts.micros,
+    })
+}
+
+/// A unit by a controller, in this access state.
+pub fn route(
+    alloc: Global,
+    controller: u64,
+    state: u64,
+    counts: Option<&Counts>,
+) -> Result<Route, AllocError> {
+    let commands = match counts {
+        Some(counts) => commands(alloc, counts)?,
+        None => commands(alloc, &Counts::none())?,
+    };
+    Ok(Route {
+        controller,
+        state,
+        state_words: state_words(state),
+        commands,
+    })
+}
+
+/// A session.
+pub fn session(alloc: Global, seen: &SessionSeen) -> Result<Session, AllocError> {
+    let (isid, portal, peer) = (seen.isid, seen.path.portal, seen.path.from);
+    Ok(Session {
+        initiator: spelled(alloc, &seen.name)?,
+        isid: format!(in alloc; "0x{isid:x}")?,
+        tsih: u64::from(seen.tsih),
+        kind: seen.kind.text(),
+        controller: u64::from(seen.path.tag),
+        portal: format!(in alloc; "{portal}")?,
+        peer: format!(in alloc; "{peer}")?,
+        since: seen.since.as_secs(),
+        last_command: seen.last.map(|operation| operation.text()),
+        idle_micros: seen.last.map(|_| seen.idle),
+        commands: seen.commands,
+    })
+}

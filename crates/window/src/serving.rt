@@ -1,0 +1,176 @@
+//! The connections of a window, a thread each.
+
+use crate::clerk::{Clerk, Sight};
+use http_server::{Config, Connection};
+use http1::Limits;
+use std::alloc::Global;
+use std::hash::RandomState;
+use std::io::{self, ErrorKind, Read};
+use std::net::{Shutdown, TcpListener, TcpStream};
+use std::random::RandomSource;
+use std::sync::Arc;
+use std::sync::atomic::{AtomicU64, Ordering};
+use std::thread;
+use std::thread::{Builder, JoinHandle, Threads};
+use std::time::{Clock, Duration};
+
+/// So many connections are served at once; others are closed.
+const CONNECTIONS: u64 = 16;
+
+/// So many milliseconds may a connection last, from its beginning to the last byte of its answer.
+const PATIENCE: u64 = 5000;
+
+/// So many milliseconds, at most, is waited for a peer that goes on sending behind its answer.
+const LINGERING: u64 = 500;
+
+/// What the stack of a thread takes.
+const STACK: usize = 256 * 1024;
+
+/// So many milliseconds the accept loop rests where no connection could be accepted.
+const REST: u64 = 100;
+
+/// A request has at most 8 KiB.
+const CONFIG: Config = Config {
+    limits: Limits {
+        max_head_len: 8192,
+        max_extensions_len: 256,
+        max_trailers_len: 256,
+    },
+    max_body_len: 0,
+    max_pending: 0,
+    read_size: 2048,
+};
+
+// What is left of so many milliseconds that began then; none: they are over.
+fn left<R: Clock>(rt: &R, began: Duration, patience: u64) -> io::Result<Duration> {
+    let gone = rt.monotonic()?.saturating_sub(began);
+    match Duration::from_millis(patience).checked_sub(gone) {
+        Some(left) if left > Duration::from_millis(1) => Ok(left),
+        _ => Err(ErrorKind::TimedOut.into()),
+    }
+}
+
+// Answers a connection.
+fn answer<R: Clock + RandomSource, S: Sight>(
+    rt: &R,
+    alloc: Global,
+    sight: &S,
+    stream: &TcpStream,
+    began: Duration,
+) -> io::Result<()> {
+    let mut connection = Connection::new(alloc, RandomState::new(rt)?, CONFIG);
+    let mut clerk = Clerk::new(alloc, sight);
+    let mut stream = stream;
+    for _ in 0..u64::MAX {
+        connection.advance(&mut clerk);
+        if connection.is_done() {
+            break;
+        }
+        let left = left(rt, began, PATIENCE)?;
+        if connection.wants_write() {
+            stream.set_write_timeout(Some(left))?;
+            if connection.write_to(&mut stream)? == 0 {
+                break;
+            }
+        } else {
+            stream.set_read_timeout(Some(left))?;
+            let _ = connection.read_from(&mut stream)?;
+        }
+    }
+    Ok(())
+}
+
+// Ends a connection that was answered: what the peer still sends is read and dropped for a while, so that it has its answer.
+fn finish<R: Clock>(rt: &R, stream: &TcpStream) -> io::Result<()> {
+    let mut stream = stream;
+    stream.shutdown(Shutdown::Write)?;
+    let began = rt.monotonic()?;
+    let mut rest = [0; 1024];
+    for _ in 0..u64::MAX {
+        stream.set_read_timeout(Some(left(rt, began, LINGERING)?))?;
+        if stream.read(&mut rest)? == 0 {
+            break;
+        }
+    }
+    Ok(())
+}
+
+// Serves a connection.
+fn attend<R: Clock + RandomSource, S: Sight>(
+    rt: &R,
+    alloc: Global,
+    sight: &S,
+    stream: &TcpStream,
+) -> io::Result<()> {
+    let _ = stream.set_nodelay(true);
+    let began = rt.monotonic()?;
+    answer(rt, alloc, sight, stream, began)?;
+    finish(rt, stream)
+}
+
+// Serves a connection, which is one less then.
+fn work<R: Clock + RandomSource, S: Sight>(
+    rt: &R,
+    alloc: Global,
+    sight: &S,
+    busy: &AtomicU64,
+    stream: &TcpStream,
+) {
+    let _ = attend(rt, alloc, sight, stream);
+    let _ = busy.fetch_sub(1, Ordering::SeqCst);
+}
+
+// Starts the thread of a connection.
+fn start<
+    R: Threads + Clock + RandomSource + Clone + Drop + Send + 'static,
+    S: Sight + Drop + Send + Sync + 'static,
+>(
+    rt: &R,
+    alloc: Global,
+    sight: &Arc<S, Global>,
+    busy: &Arc<AtomicU64, Global>,
+    stream: TcpStream,
+) -> io::Result<()> {
+    let sight = Arc::try_clone(sight)?;
+    let busy = Arc::try_clone(busy)?;
+    let mine = rt.clone()?;
+    let work = move || work::<R, S>(&mine, alloc, &sight, &busy, &stream);
+    let _thread: JoinHandle<()> = Builder::new().stack_size(STACK).spawn(rt, work)?;
+    Ok(())
+}
+
+// Accepts connections, a thread each, as long as there are not too many.
+fn accept<
+    R: Threads + Clock + RandomSource + Clone + Drop + Send + 'static,
+    S: Sight + Drop + Send + Sync + 'static,
+>(
+    rt: &R,
+    alloc: Global,
+    listener: &TcpListener,
+    sight: &Arc<S, Global>,
+    busy: &Arc<AtomicU64, Global>,
+) {
+    for stream in listener.incoming() {
+        let Ok(stream) = stream else {
+            thread::sleep(rt, Duration::from_millis(REST));
+            continue;
+        };
+        let is_too_many = busy.fetch_add(1, Ordering::SeqCst) >= CONNECTIONS;
+        if is_too_many || start(rt, alloc, sight, busy, stream).is_err() {
+            let _ = busy.fetch_sub(1, Ordering::SeqCst);
+        }
+    }
+}
+
+/// Starts to answer, by what this sees, the connections that come to a socket that listens.
+pub fn open<
+    R: Threads + Clock + RandomSource + Clone + Drop + Send + 'static,
+    S: Sight + Drop + Send + Sync + 'static,
+>(rt: &R, alloc: Global, listener: TcpListener, sight: S) -> io::Result<()> {
+    let sight = Arc::new(alloc, sight)?;
+    let busy = Arc::new(alloc, AtomicU64::new(0))?;
+    let mine = rt.clone()?;
+    let work = move || accept::<R, S>(&mine, alloc, &listener, &sight, &busy);
+    let _thread: JoinHandle<()> = Builder::new().stack_size(STACK).spawn(rt, work)?;
+    Ok(())
+}

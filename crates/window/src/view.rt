@@ -1,0 +1,133 @@
+//! What is seen of an array at one look.
+
+use serde::Serialize;
+
+/// How often something was counted, and what that is called.
+#[derive(Drop, Serialize)]
+pub struct Tally {
+    pub what: &'static str,
+    pub count: u64,
+}
+
+/// What is counted of commands.
+#[derive(Drop, Serialize)]
+pub struct Commands {
+    /// By their operations.
+    pub operations: Vec<Tally>,
+    pub read_bytes: u64,
+    pub written_bytes: u64,
+    pub good: u64,
+    pub reservation_conflicts: u64,
+    pub busy: u64,
+    /// CHECK CONDITION by sense key, from 0 to 15.
+    pub sense_keys: Vec<u64>,
+    /// Those that asked for a flush before their answer, and those of them that ended with MEDIUM ERROR.
+    pub flushes: u64,
+    pub failed_flushes: u64,
+    /// By the times that they took: of each bound, and of what is above the last one.
+    pub buckets: Vec<u64>,
+    /// The times that they took together.
+    pub micros: u64,
+}
+
+/// A unit by a controller.
+#[derive(Drop, Serialize)]
+pub struct Route {
+    pub controller: u64,
+    /// Its asymmetric access state (SPC-4, 5.15.2.2), as a number and in words.
+    pub state: u64,
+    pub state_words: &'static str,
+    pub commands: Commands,
+}
+
+/// A unit.
+#[derive(Drop, Serialize)]
+pub struct Unit {
+    pub unit: u64,
+    /// The controller that owns it, 1 or 2.
+    pub owner: u64,
+    /// The generation of its registrations, and how many nexuses are registered.
+    pub generation: u64,
+    pub registrants: u64,
+    /// The type of its persistent reservation (SPC-4, table 56), or 0.
+    pub reservation_type: u64,
+    /// How many entries its history has.
+    pub entries: u64,
+    /// Its disk and its registration file, as the log spells names.
+    pub disk: String,
+    pub registration_file: String,
+    /// How many blocks its disk has.
+    pub blocks: u64,
+    /// Its disk's health in words.
+    pub health: &'static str,
+    /// What may be wrong with it: 1 where it is.
+    pub troubles: Vec<Tally>,
+    /// Calls of the system that failed.
+    pub disk_failures: Vec<Tally>,
+    pub registration_failures: Vec<Tally>,
+    /// For how long the oldest command is served.
+    pub oldest_command_micros: u64,
+    pub paths: Vec<Route>,
+}
+
+/// A session.
+#[derive(Drop, Serialize)]
+pub struct Session {
+    /// The InitiatorName, as the log spells names.
+    pub initiator: String,
+    /// The ISID, in hexadecimal.
+    pub isid: String,
+    pub tsih: u64,
+    pub kind: &'static str,
+    pub controller: u64,
+    pub portal: String,
+    pub peer: String,
+    /// Since how many seconds after the beginning of 1970.
+    pub since: u64,
+    /// The operation of its last command, where there was one.
+    pub last_command: Option<&'static str>,
+    /// For how many microseconds that one has ended.
+    pub idle_micros: Option<u64>,
+    pub commands: u64,
+}
+
+/// A controller.
+#[derive(Drop, Serialize)]
+pub struct Controller {
+    pub controller: u64,
+    pub portals: Vec<String>,
+    pub sessions: u64,
+}
+
+/// An array.
+#[derive(Drop, Serialize)]
+pub struct View {
+    pub version: &'static str,
+    pub target: String,
+    pub array: u64,
+    /// Since how many seconds after the beginning of 1970 it is served, and for how many microseconds.
+    pub since: u64,
+    pub uptime_micros: u64,
+    pub controllers: Vec<Controller>,
+    pub units: Vec<Unit>,
+    pub sessions: Vec<Session>,
+    pub logins: u64,
+    pub refused_logins: Vec<Tally>,
+    /// The longest times of the buckets of times.
+    pub bounds_micros: Vec<u64>,
+    /// What is wrong, a sentence each.
+    pub problems: Vec<String>,
+}
+
+/// An access state in words.
+pub fn state_words(state: u64) -> &'static str {
+    match state {
+        0 => "active/optimized",
+        1 => "active/non-optimized",
+        2 => "standby",
+        3 => "unavailable",
+        14 => "offline",
+        15 => "transitioning",
+        _ => "unknown",
+    }
+}

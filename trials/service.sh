@@ -1,0 +1,144 @@
+#!/bin/sh
+# Runs the array as a service does, by the service's own scripts and without systemd: starts it, asks `status`, takes a controller
+# down, stops it by `quit`, starts it anew, ends it by SIGTERM; all by the FIFOs of its console. Then what checks the service's files,
+# where it is installed: systemd-analyze, mandoc. Ends with status 1 where something is not as it has to be.
+#
+# usage: trials/service.sh
+cd "$(dirname "$0")/.." || exit 1
+place=$(mktemp -d)
+port=$((20000 + $$ % 10000))
+ARRAYD=$(realpath "${ARRAYD:-./arrayd}")
+export ARRAYD
+pid=
+failed=0
+trap 'test -z "$pid" || kill "$pid" 2> /dev/null; rm -rf "$place"' EXIT
+
+# what it is, what was found, what it has to be
+is() {
+    if [ "$2" = "$3" ]; then
+        echo "ok      $1"
+    else
+        echo "FAILED  $1: '$2', and not '$3'"
+        failed=1
+    fi
+}
+
+console() {
+    service/arrayd-console --limit 20 "$place/run" "$@" 2>&1
+}
+
+begin() {
+    (cd "$place/state" && exec "$OLDPWD/service/arrayd-run" "$place/run" --port "$port" "$@") 2> "$place/complains" &
+    pid=$!
+    # as the service does: it is up when it answers
+    MAINPID=$pid console ready > "$place/status"
+}
+
+# how the array ends: its exit status
+ends() {
+    wait "$pid"
+    ended=$?
+    pid=
+}
+
+mkdir "$place/run" "$place/state"
+truncate -s 8M "$place/disk0" "$place/disk1"
+# units are links in a folder of the array's own, so that their registration files lie there
+ln -s "$place/disk0" "$place/state/unit0"
+ln -s "$place/disk1" "$place/state/unit1"
+
+is 'nobody answers before it is started' "$(console status; echo $?)" "arrayd-console: [Errno 2] No such file or directory: '$place/run/told'
+3"
+begin unit0 unit1
+is 'it answers status, a line a unit' "$(sed 's/ entries.*//' "$place/status")" \
+    'unit 0 owner 1 states 0 1 generation 0 keys 0 type 0
+unit 1 owner 2 states 1 0 generation 0 keys 0 type 0'
+is 'down 1' "$(console down 1)" down
+is 'and the other controller owns both units' "$(console status | sed 's/ generation.*//')" 'unit 0 owner 2 states 3 0
+unit 1 owner 2 states 3 0'
+is 'a line that it does not know is not asked' "$(console up 1 > "$place/up"; echo $?)" 2
+is 'two that ask at once each get their own answer' "$(for i in 1 2 3 4 5 6 7 8; do console status & done | grep -c '^unit [01] owner 2')" 16
+echo status > "$place/run/console"
+is 'what an echo has asked is not taken for an answer' "$(console down 1)" down
+console quit
+is 'quit waits until it has ended' "$(kill -0 "$pid" 2> /dev/null && echo there)" ''
+ends
+is 'and it ended well' $ended 0
+is 'nobody is told to quit twice' "$(console quit; echo $?)" 'arrayd-console: no array is there
+3'
+is 'registration files lie beside the links' "$(ls "$place/state")" 'unit0
+unit0.reg
+unit1
+unit1.reg'
+begin unit0 unit1
+is 'started anew, each unit is with its own controller' "$(sed 's/ generation.*//' "$place/status")" \
+    'unit 0 owner 1 states 0 1
+unit 1 owner 2 states 1 0'
+first=$pid
+other=$(mkdir "$place/other" && cd "$place/state" && "$OLDPWD/service/arrayd-run" "$place/other" --port "$port" unit0 2>&1; echo $?)
+is 'a second one over the same disk is refused' "$other" 'arrayd: cannot use unit 0
+1'
+is 'and the first is there still' "$(kill -0 "$first" && echo there)" there
+# a session that lives holds up no end
+python3 - "$port" << 'END' &
+import sys, time
+sys.path.insert(0, "trials")
+from initiator import Session
+session = Session("127.0.0.1", int(sys.argv[1]), "iqn.2000-01.test:array")
+session.ready(0)
+time.sleep(5)
+END
+host=$!
+sleep 1
+console quit
+ends
+is 'quit does not wait for hosts' $ended 0
+kill "$host" 2> /dev/null
+wait "$host" 2> /dev/null
+begin unit0 unit1
+kill "$pid"
+ends
+is 'SIGTERM ends it' $ended 143
+begin missing
+ends
+is 'a fault at the start is told, and the status is 1' "$(cat "$place/complains") $ended" 'arrayd: cannot use unit 0 1'
+
+# links to disks that lie elsewhere, which the start makes
+begin unit0 linked="$place/disk1"
+is 'a link is made to a disk that lies elsewhere' "$(readlink "$place/state/linked")" "$place/disk1"
+is 'and it is a unit, with its registration file' "$(grep -c unit "$place/status") $(ls "$place/state/linked.reg")" "2 $place/state/linked.reg"
+console quit
+ends
+begin unit0 linked="$place/disk1"
+console quit
+ends
+is 'a link that is there is taken' $ended 0
+begin linked="$place/disk0"
+ends
+is 'one to another disk is left' "$(cat "$place/complains") $ended" "arrayd-run: linked is a link to $place/disk1, and not to $place/disk0 2"
+begin unit2="$place/nowhere"
+ends
+is 'there is none to a disk that is not there' "$(cat "$place/complains") $ended" "arrayd-run: there is no $place/nowhere for unit2 1"
+is 'and none was made' "$(ls "$place/state" | grep -c unit2)" 0
+
+if command -v systemd-analyze > /dev/null; then
+    # as it is installed, under a root of its own
+    DESTDIR="$place/root" service/install.sh "$ARRAYD"
+    for unit in arrayd@.service arrayd-status@.service arrayd-status@.socket; do
+        sed "s#/usr/libexec#$place/root/usr/libexec#" "service/$unit" > "$place/$(echo "$unit" | sed 's/@/@test/')"
+    done
+    is 'systemd-analyze verify has nothing to say' "$(cd "$place" && systemd-analyze verify --man=no ./arrayd*@test.* 2>&1)" ''
+    for unit in arrayd@test.service arrayd-status@test.service; do
+        systemd-analyze security --offline=true --threshold=25 "$place/$unit" > "$place/security" 2>&1
+        is 'systemd-analyze security calls its exposure at most 2.5' $? 0
+        tail -1 "$place/security"
+    done
+else
+    echo 'systemd-analyze is not installed: the unit was not checked'
+fi
+if command -v mandoc > /dev/null; then
+    is 'mandoc has nothing to say' "$(mandoc -T lint -W warning service/*.8 2>&1)" ''
+else
+    echo 'mandoc is not installed: the page was not checked'
+fi
+exit $failed

@@ -1,0 +1,554 @@
+#!/usr/bin/env python3
+"""Looks through the window of a running array: sends it what this script knows, and compares what /metrics, /status and /health say of
+it; then asks what may not be asked, half a request, a thousand connections, and reads slowly, beside two sessions that work.
+Prints a line for each case. Ends with status 1 where something is otherwise.
+
+usage: trials/window.py [NAME..]      all, where none is named
+
+The program is ./arrayd, or what the environment's ARRAYD names. promtool and prometheus are Debian's package prometheus; where they are
+not there, their cases say so.
+"""
+
+import json
+import os
+import re
+import shutil
+import socket
+import subprocess
+import sys
+import tempfile
+import threading
+import time
+
+from initiator import GOOD, RESERVATION_CONFLICT, Session
+from running import ARRAYD, PORT, TARGET, TOP, Array, Wrong, ended, made
+from trouble import Mounted, NotHere, end_of, flush, is_so, run, write
+
+AT = 15000 + os.getpid() % 5000
+CASES = []
+SAMPLE = re.compile(r'([a-z_]+)\{((?:[a-z_]+="(?:[^"\\\n]|\\[\\"n])*",)*)\} (\d+(?:e-6)?)')
+LABEL = re.compile(r'([a-z_]+)="((?:[^"\\\n]|\\[\\"n])*)",')
+HOSTILE = [
+    "a\narrayd_up 1", "quote\"} 1", "back\\slash\\", "<script>document.title='owned'</script>", "\x1b[2J\r\t", "\u00e9\U0001f600",
+    "x" * 223,
+]
+
+
+def case(function):
+    CASES.append(function)
+    return function
+
+
+def window(folder, units=1, at=None, options=(), log=None):
+    """An array with a window."""
+    disks = [made(f"{folder}/disk{unit}", 4096) for unit in range(units)]
+    return Array(disks, options=list(options), log=log, more={"ARRAYD_HTTP": at or f"127.0.0.1:{AT}"})
+
+
+def host(controller=1, name="iqn.2000-01.test:host", isid=0x400001370000):
+    session = Session("127.0.0.1", PORT + 4 * (controller - 1), TARGET, name, isid, timeout=20)
+    for unit in range(8):
+        session.command(unit, [0] * 6)
+    return session
+
+
+def asked(request, seconds=8):
+    """What is answered to these bytes: status, fields and body."""
+    with socket.create_connection(("127.0.0.1", AT), timeout=seconds) as peer:
+        peer.sendall(request)
+        answer = b""
+        while True:
+            part = peer.recv(65536)
+            if not part:
+                break
+            answer += part
+    head, _, body = answer.partition(b"\r\n\r\n")
+    lines = head.decode("latin-1").split("\r\n")
+    fields = dict(line.lower().split(": ", 1) for line in lines[1:])
+    return (int(lines[0].split()[1]) if lines[0] else None), fields, body
+
+
+def get(path):
+    return asked(f"GET {path} HTTP/1.1\r\nHost: here\r\n\r\n".encode())
+
+
+def metrics():
+    """The samples by name and labels, each of whose lines has to be spelled as lines are."""
+    status, fields, body = get("/metrics")
+    is_so("status of /metrics", (status, fields["content-type"]), (200, "text/plain; version=0.0.4; charset=utf-8"))
+    found, kinds = {}, {}
+    for line in body.decode("ascii").split("\n")[:-1]:
+        if line.startswith("# HELP "):
+            continue
+        if line.startswith("# TYPE "):
+            _, _, name, kind = line.split(" ")
+            kinds[name] = kind
+            continue
+        sample = SAMPLE.fullmatch(line)
+        if not sample or re.sub("_(bucket|sum|count)$", "", sample[1]) not in kinds and sample[1] not in kinds:
+            raise Wrong(f"no sample: {line!r}")
+        key = (sample[1], frozenset((name, value) for name, value in LABEL.findall(sample[2])))
+        if key in found:
+            raise Wrong(f"twice: {line!r}")
+        found[key] = float(sample[3])
+    return found
+
+
+def value(found, name, **labels):
+    return found[name, frozenset((key, str(text)) for key, text in labels.items())]
+
+
+def status():
+    code, fields, body = get("/status")
+    is_so("status of /status", (code, fields["content-type"]), (200, "application/json"))
+    return json.loads(body)
+
+
+# ---- what is counted
+
+def work(session, reads, writes, blocks):
+    for _ in range(reads):
+        session.read(0, 0, blocks)
+    for _ in range(writes):
+        session.write(0, 0, bytes(512 * blocks))
+
+
+@case
+def counts(folder):
+    with window(folder, 2) as array:
+        first, second = host(1), host(2, isid=0x400001370001)
+        before = metrics()
+        work(first, 7, 3, 8)
+        work(second, 2, 5, 300)
+        first.compare_and_write(0, 0, bytes(512), bytes(512))
+        is_so("a difference", first.compare_and_write(0, 0, b"x" * 512, bytes(512)).sense_key(), (0x0E, 0x1D, 0))
+        first.flush(1)
+        is_so("unknown", first.command(1, [0x93] + [0] * 15).sense_key(), (5, 0x20, 0))
+        first.reserve_out(1, 0, new_key=5)
+        first.reserve_out(1, 1, kind=1, key=5)
+        is_so("conflict", second.command(1, [0x2A, 0, 0, 0, 0, 0, 0, 0, 1, 0], out=bytes(512)).status, RESERVATION_CONFLICT)
+        after = metrics()
+        grown = lambda name, **labels: value(after, name, **labels) - value(before, name, **labels)
+        commands = lambda unit, controller, operation: grown(
+            "arrayd_commands_total", unit=unit, controller=controller, operation=operation)
+        is_so("reads", [commands(0, 1, "read"), commands(0, 2, "read"), commands(1, 1, "read")], [7, 2, 0])
+        is_so("writes", [commands(0, 1, "write"), commands(0, 2, "write"), commands(1, 2, "write")], [3, 5, 1])
+        is_so("others", [commands(0, 1, "compare_and_write"), commands(1, 1, "synchronize_cache"),
+                         commands(1, 1, "persistent_reserve_out"), commands(1, 1, "other")], [2, 1, 2, 1])
+        size = lambda name, unit, controller: grown(name, unit=unit, controller=controller)
+        is_so("bytes read", [size("arrayd_read_bytes_total", 0, 1), size("arrayd_read_bytes_total", 0, 2)],
+              [7 * 4096, 2 * 153600])
+        is_so("bytes written", [size("arrayd_written_bytes_total", 0, 1), size("arrayd_written_bytes_total", 0, 2),
+                                size("arrayd_written_bytes_total", 1, 2)], [3 * 4096 + 512, 5 * 153600, 0])
+        is_so("ends", [size("arrayd_miscompares_total", 0, 1), size("arrayd_reservation_conflicts_total", 1, 2),
+                       size("arrayd_busy_total", 0, 1)], [1, 1, 0])
+        is_so("sense 5", grown("arrayd_check_conditions_total", unit=1, controller=1, sense_key="0x5"), 1)
+        for unit, controller, count in ((0, 1, 12), (0, 2, 7), (1, 1, 4), (1, 2, 1)):
+            is_so("times", grown("arrayd_command_duration_seconds_count", unit=unit, controller=controller), count)
+            is_so("last bucket", grown("arrayd_command_duration_seconds_bucket", unit=unit, controller=controller, le="+Inf"), count)
+        is_so("registrants", [value(after, "arrayd_unit_registrants", unit=1), value(after, "arrayd_unit_reservation_type", unit=1)],
+              [1, 1])
+        first.close()
+        array.quit()
+
+
+@case
+def sessions(folder):
+    with window(folder) as array:
+        began = time.time()
+        first, second = host(1), host(2, "iqn.2000-01.test:other", 0x400001370007)
+        first.read(0, 0, 1)
+        seen = {one["controller"]: one for one in status()["sessions"]}
+        is_so("initiators", [seen[1]["initiator"], seen[2]["initiator"]], ["iqn.2000-01.test:host", "iqn.2000-01.test:other"])
+        is_so("ISIDs", [seen[1]["isid"], seen[2]["isid"]], ["0x400001370000", "0x400001370007"])
+        is_so("last", [seen[1]["last_command"], seen[2]["last_command"]], ["read", "other"])
+        is_so("commands", [seen[1]["commands"], seen[2]["commands"]], [2, 1])
+        is_so("since", abs(seen[1]["since"] - began) < 3, True)
+        is_so("peer", seen[1]["peer"], "127.0.0.1:%d" % first.socket.getsockname()[1])
+        is_so("portal", seen[2]["portal"], f"127.0.0.1:{PORT + 4}")
+        is_so("gauge", value(metrics(), "arrayd_sessions", controller=1), 1)
+        read = value(metrics(), "arrayd_commands_total", unit=0, controller=1, operation="read")
+        first.logout()
+        until = time.monotonic() + 5
+        while len(status()["sessions"]) != 1 and time.monotonic() < until:
+            time.sleep(0.01)
+        is_so("left", [one["controller"] for one in status()["sessions"]], [2])
+        is_so("kept", value(metrics(), "arrayd_commands_total", unit=0, controller=1, operation="read"), read)
+        second.close()
+        array.quit()
+
+
+@case
+def logins_that_are_refused(folder):
+    with window(folder) as array:
+        host().close()
+        for _ in range(3):
+            try:
+                Session("127.0.0.1", PORT, "iqn.2000-01.test:no", timeout=20)
+            except Exception:
+                pass
+        until = time.monotonic() + 5
+        while value(metrics(), "arrayd_refused_logins_total", cause="request") != 3 and time.monotonic() < until:
+            time.sleep(0.01)
+        found = metrics()
+        is_so("logins", value(found, "arrayd_logins_total"), 1)
+        is_so("refused", value(found, "arrayd_refused_logins_total", cause="request"), 3)
+        array.quit()
+
+
+@case
+def controllers(folder):
+    with window(folder, 2) as array:
+        view = status()
+        is_so("owners", [unit["owner"] for unit in view["units"]], [1, 2])
+        array.ask("down 1")
+        view = status()
+        is_so("owners then", [unit["owner"] for unit in view["units"]], [2, 2])
+        is_so("states", [[path["state"] for path in unit["paths"]] for unit in view["units"]], [[3, 0], [3, 0]])
+        is_so("disk", view["units"][1]["disk"], f"{folder}/disk1")
+        is_so("health", get("/health")[::2], (200, b"ok\n"))
+        array.quit()
+
+
+@case
+def names(folder):
+    with window(folder) as array:
+        open_ = [host(1, name, 0x400001370000 + at) for at, name in enumerate(HOSTILE)]
+        found = {one["isid"]: one["initiator"] for one in status()["sessions"]}
+        for at, name in enumerate(HOSTILE):
+            spelled = found[hex(0x400001370000 + at)]
+            is_so("plain", all(32 <= ord(c) < 127 for c in spelled), True)
+            said = re.sub(rb'\\x([0-9a-f]{2})|\\(["\\])', lambda m: bytes([int(m[1], 16)]) if m[1] else m[2], spelled.encode())
+            is_so("the name", said, name.encode())
+        is_so("samples", sum(name == "arrayd_session_commands_total" for name, _ in metrics()), len(HOSTILE))
+        for session in open_:
+            session.close()
+        array.quit()
+
+
+# ---- what is wrong
+
+def wrong(unit, trouble):
+    """/health tells of this trouble of a unit as the page of trouble has it, /metrics and /status too."""
+    with open(f"{TOP}/docs/TROUBLE.md", encoding="utf-8") as file:
+        page = " ".join(file.read().replace("**", "").split())
+    code, _, said = get("/health")
+    is_so("health", code, 503)
+    for line in said.decode().splitlines():
+        words_ = re.fullmatch(f"unit {unit}: (.*)", line)[1]
+        if words_ not in page:
+            raise Wrong(f"docs/TROUBLE.md does not say: {words_}")
+    view = status()
+    is_so("problems", view["problems"], said.decode().splitlines())
+    is_so("/status", {one["what"]: one["count"] for one in view["units"][unit]["troubles"]}[trouble], 1)
+    is_so("/metrics", value(metrics(), "arrayd_unit_trouble", unit=unit, trouble=trouble), 1)
+    return view["units"][unit]["health"]
+
+
+@case
+def disk_that_became_shorter(folder):
+    with window(folder, 2) as array:
+        session = host(2)
+        is_so("well", (get("/health")[::2], status()["units"][1]["health"]), ((200, b"ok\n"), "well"))
+        os.truncate(f"{folder}/disk1", 512)
+        is_so("a read", session.command(1, [0x28, 0, 0, 0, 0, 100, 0, 0, 1, 0], expected=512).sense_key(), (3, 0x11, 0))
+        is_so("health", wrong(1, "calls_failed"), "calls on it failed")
+        is_so("calls", value(metrics(), "arrayd_device_failures_total", unit=1, file="disk", call="read"), 1)
+        is_so("sense 3", value(metrics(), "arrayd_check_conditions_total", unit=1, controller=2, sense_key="0x3"), 1)
+        array.quit()
+
+
+@case
+def log_that_cannot_be_written(folder):
+    with window(folder, log=f"{folder}/none/log") as array:
+        session = host()
+        until = time.monotonic() + 5
+        while get("/health")[0] == 200 and time.monotonic() < until:
+            time.sleep(0.05)
+        is_so("health", get("/health")[::2], (503, b"The log cannot be written.\n"))
+        is_so("in numbers", value(metrics(), "arrayd_problems"), 1)
+        os.mkdir(f"{folder}/none")
+        session.logout()
+        until = time.monotonic() + 5
+        while get("/health")[0] != 200 and time.monotonic() < until:
+            time.sleep(0.05)
+        is_so("well again", get("/health")[::2], (200, b"ok\n"))
+        array.quit()
+
+
+@case
+def flushes_that_are_lost(folder):
+    with Mounted(folder) as place:
+        place.mount("-t", "tmpfs", "-o", "size=256k", "none")
+        file = made(place.place + "/file", 4096)
+        os.symlink(place.loop(file), folder + "/unit0")
+        with Array([folder + "/unit0"], more={"ARRAYD_HTTP": f"127.0.0.1:{AT}"}) as array:
+            session = host()
+            is_so("a flush", (write(session, 0), flush(session)), (GOOD, GOOD))
+            for lba in range(0, 4096, 8):
+                write(session, lba, b"more")
+            is_so("the flush fails", flush(session), "03 0C/00")
+            is_so("health", wrong(0, "flushes_lost"), "flushes are lost")
+            found = metrics()
+            is_so("flushes", [value(found, name, unit=0, controller=1) for name in
+                              ("arrayd_flushes_total", "arrayd_failed_flushes_total")], [2, 1])
+            array.quit()
+
+
+@case
+def disk_that_hangs(folder):
+    with Mounted(folder) as place:
+        image = made(folder + "/image", 32768)
+        run("mkfs.ext4", "-q", "-F", image)
+        place.mount(place.loop(image))
+        disks = [made(place.place + "/disk", 2048), made(folder + "/other", 16)]
+        with Array(disks, more={"ARRAYD_HTTP": f"127.0.0.1:{AT}"}) as array:
+            session = host()
+            run("fsfreeze", "-f", place.place)
+            try:
+                tag = session.submit(0, [0x2A, 0, 0, 0, 0, 0, 0, 0, 1, 0], out=bytes(512))
+                time.sleep(2)
+                is_so("slow", status()["units"][0]["health"], "slow")
+                is_so("not wrong yet", get("/health")[0], 200)
+                began = time.monotonic()
+                get("/metrics")
+                took = time.monotonic() - began
+                print(f"      a scrape beside it took {1000 * took:.1f} ms")
+                time.sleep(9)
+                is_so("health", wrong(0, "hangs"), "hangs")
+                is_so("for so long", 10 < value(metrics(), "arrayd_unit_oldest_command_seconds", unit=0) < 20, True)
+            finally:
+                run("fsfreeze", "-u", place.place)
+            is_so("then", end_of(session.wait(tag)), GOOD)
+            is_so("well again", (get("/health")[0], status()["units"][0]["health"]), (200, "well"))
+            is_so("the bucket of what took so long",
+                  value(metrics(), "arrayd_command_duration_seconds_bucket", unit=0, controller=1, le="+Inf")
+                  - value(metrics(), "arrayd_command_duration_seconds_bucket", unit=0, controller=1, le="10"), 1)
+            array.quit()
+
+
+# ---- what may be asked, and by how many
+
+@case
+def answers(folder):
+    with window(folder) as array:
+        is_so("page", (get("/")[0], get("/")[1]["content-type"]), (200, "text/html; charset=utf-8"))
+        is_so("another", get("/no")[0], 404)
+        is_so("with words", get("/health?x=1")[0], 200)
+        for method in ("POST", "HEAD", "PUT", "DELETE", "OPTIONS"):
+            code, fields, _ = asked(f"{method} /status HTTP/1.1\r\nHost: here\r\n\r\n".encode())
+            is_so(method, (code, fields["allow"]), (405, "get"))
+        is_so("a body", asked(b"GET / HTTP/1.1\r\nHost: h\r\nContent-Length: 5\r\n\r\nhello")[0], 413)
+        is_so("long field", asked(b"GET / HTTP/1.1\r\nHost: h\r\nA: " + b"x" * 8200 + b"\r\n\r\n")[0], 431)
+        is_so("long line", asked(b"GET /" + b"x" * 9000 + b" HTTP/1.1\r\n\r\n")[0], 414)
+        is_so("no HTTP", asked(b"\x00\x01\x02\r\n\r\n")[0], 400)
+        is_so("one answer", asked(b"GET /health HTTP/1.1\r\nHost: h\r\n\r\n" * 3)[2], b"ok\n")
+        array.quit()
+
+
+def left_alone(seconds, request=b""):
+    """How long a connection lasts that sends this and no more."""
+    began = time.monotonic()
+    with socket.create_connection(("127.0.0.1", AT), timeout=seconds) as peer:
+        peer.sendall(request)
+        while peer.recv(4096):
+            pass
+    return time.monotonic() - began
+
+
+@case
+def half_a_request(folder):
+    with window(folder) as array:
+        for request in (b"", b"GET / HT"):
+            is_so("about 5 s", 4.5 < left_alone(10, request) < 6.5, True)
+        began, peer = time.monotonic(), socket.create_connection(("127.0.0.1", AT), timeout=10)
+        try:
+            while time.monotonic() - began < 9:
+                peer.sendall(b"G")
+                time.sleep(0.5)
+        except OSError:
+            pass
+        is_so("a byte at a time", time.monotonic() - began < 8, True)
+        array.quit()
+
+
+@case
+def many_connections(folder):
+    with window(folder) as array:
+        sessions_, stop, done = [host(1), host(2, isid=0x400001370001)], threading.Event(), [0, 0]
+
+        def run(at):
+            while not stop.is_set():
+                sessions_[at].read(0, 0, 8)
+                done[at] += 1
+        threads = [threading.Thread(target=run, args=(at,)) for at in range(2)]
+        for thread in threads:
+            thread.start()
+        time.sleep(2)
+        calm = sum(done) / 2
+        before, peers = sum(done), []
+        for _ in range(1000):
+            peers.append(socket.create_connection(("127.0.0.1", AT), timeout=10))
+        slow = peers[0]
+        slow.sendall(b"GET / HTTP/1.1\r\nHost: h\r\n\r\n")
+        time.sleep(2)
+        busy = (sum(done) - before) / 2
+        for peer in peers:
+            peer.close()
+        time.sleep(6)
+        is_so("it answers again", get("/health")[0], 200)
+        stop.set()
+        for thread in threads:
+            thread.join()
+        print(f"      {calm:.0f} commands a second alone, {busy:.0f} beside a thousand connections")
+        is_so("the sessions went on", busy > calm / 2, True)
+        is_so("counted", sum(value(metrics(), "arrayd_commands_total", unit=0, controller=c, operation="read") for c in (1, 2)),
+              sum(done))
+        array.quit()
+
+
+@case
+def soon(folder):
+    """A scrape is answered within 50 ms while 64 sessions work."""
+    with window(folder) as array:
+        stop, sessions_ = threading.Event(), [host(1 + at % 2, isid=0x400001370000 + at) for at in range(64)]
+
+        def run(session):
+            while not stop.is_set():
+                session.read(0, 0, 8)
+        threads = [threading.Thread(target=run, args=(session,)) for session in sessions_]
+        for thread in threads:
+            thread.start()
+        times = []
+        for _ in range(20):
+            done = subprocess.run(["curl", "-s", "-o", "/dev/null", "-w", "%{time_total}", f"http://127.0.0.1:{AT}/metrics"],
+                                  capture_output=True, text=True, check=True)
+            times.append(float(done.stdout))
+            time.sleep(0.1)
+        stop.set()
+        for thread in threads:
+            thread.join()
+        times.sort()
+        print(f"      median {1000 * times[10]:.1f} ms, longest {1000 * times[-1]:.1f} ms")
+        is_so("within 50 ms", times[10] < 0.05, True)
+        array.quit()
+
+
+# ---- what is asked of the environment and of the words
+
+@case
+def wrong_values(folder):
+    disk = made(f"{folder}/disk", 64)
+    for text in ("no", "127.0.0.1", "127.0.0.1:0", "127.0.0.1:70000", ":9860", "localhost:9860", "[::1]:9860", "1.2.3.4:5 "):
+        is_so(text, ended(["--port", str(PORT), disk], more={"ARRAYD_HTTP": text}), (2, "arrayd: wrong words"))
+    with socket.create_server(("127.0.0.1", AT)):
+        log = f"{folder}/log"
+        is_so("taken", ended(["--port", str(PORT), disk], log=log, more={"ARRAYD_HTTP": f"127.0.0.1:{AT}"}),
+              (1, f"arrayd: cannot listen at 127.0.0.1:{AT}"))
+        with open(log, encoding="ascii") as file:
+            line = file.read()
+        is_so("the log", f"event=cannot_listen controller=0 portal=127.0.0.1:{AT} errno=98 error=EADDRINUSE" in line, True)
+
+
+@case
+def off_by_default(folder):
+    for more in ({}, {"ARRAYD_HTTP": ""}):
+        with Array([made(f"{folder}/disk", 64)], more=more) as array:
+            pid = array.process.pid
+            ports = subprocess.run(["ss", "-ltnp"], capture_output=True, text=True, check=True).stdout
+            is_so("sockets", ports.count(f"pid={pid},"), 2)
+            array.quit()
+
+
+@case
+def words(folder):
+    told = {word: subprocess.run([ARRAYD, word], capture_output=True, text=True, check=False)
+            for word in ("--version", "--help", "--no")}
+    if os.path.exists(f"{TOP}/VERSION"):
+        with open(f"{TOP}/VERSION", encoding="ascii") as file:
+            is_so("the file VERSION", told["--version"].stdout, f"arrayd {file.read().strip()}\n")
+    is_so("version", (told["--version"].returncode, told["--version"].stdout, told["--version"].stderr), (0, "arrayd 1.0.0\n", ""))
+    is_so("help", (told["--help"].returncode, "usage: arrayd" in told["--help"].stdout, told["--help"].stderr), (0, True, ""))
+    is_so("wrong", (told["--no"].returncode, told["--no"].stdout, told["--no"].stderr), (2, "", "arrayd: wrong words\n"))
+    is_so("two", ended(["--version", "--help"]), (2, "arrayd: wrong words"))
+
+
+@case
+def dashboard(folder):
+    """The dashboard asks for metrics that there are."""
+    with open(f"{TOP}/service/grafana.json", encoding="utf-8") as file:
+        named = set(re.findall("arrayd_[a-z_]+", file.read()))
+    with window(folder) as array:
+        is_so("not there", sorted(named - {name for name, _ in metrics()}), [])
+        array.quit()
+
+
+# ---- Prometheus itself
+
+@case
+def promtool(folder):
+    if not shutil.which("promtool"):
+        raise NotHere("promtool")
+    with window(folder, 2) as array:
+        session = host()
+        stop = threading.Event()
+
+        def run():
+            while not stop.is_set():
+                session.read(0, 0, 8)
+        thread = threading.Thread(target=run)
+        thread.start()
+        time.sleep(0.5)
+        checked = subprocess.run(["promtool", "check", "metrics"], input=get("/metrics")[2], capture_output=True, check=False)
+        stop.set()
+        thread.join()
+        is_so("promtool", (checked.returncode, checked.stdout, checked.stderr), (0, b"", b""))
+        array.quit()
+
+
+@case
+def prometheus(folder):
+    if not shutil.which("prometheus"):
+        raise NotHere("prometheus")
+    port = AT + 25000
+    with open(f"{folder}/prometheus.yml", "w", encoding="ascii") as file:
+        file.write("global: {scrape_interval: 1s, scrape_timeout: 1s}\nscrape_configs:\n- job_name: arrayd\n"
+                   f"  static_configs: [{{targets: ['127.0.0.1:{AT}']}}]\n")
+    with window(folder) as array, open(f"{folder}/said", "w", encoding="ascii") as said:
+        session = host()
+        server = subprocess.Popen(["prometheus", f"--config.file={folder}/prometheus.yml", f"--storage.tsdb.path={folder}/data",
+                                   f"--web.listen-address=127.0.0.1:{port}"], stdout=said, stderr=said)
+        try:
+            for _ in range(30):
+                session.read(0, 0, 8)
+                time.sleep(0.2)
+            query = f"http://127.0.0.1:{port}/api/v1/query?query="
+            got = lambda words: json.loads(subprocess.run(["curl", "-s", query + words], capture_output=True, check=True).stdout)
+            is_so("up", got("up")["data"]["result"][0]["value"][1], "1")
+            reads = got("arrayd_commands_total%7Boperation%3D%22read%22,controller%3D%221%22%7D")["data"]["result"][0]["value"][1]
+            is_so("reads", 20 <= int(reads) <= 30, True)
+        finally:
+            server.terminate()
+            server.wait()
+        array.quit()
+
+
+def main():
+    wanted, failed = sys.argv[1:], 0
+    for tried in CASES:
+        if wanted and tried.__name__ not in wanted:
+            continue
+        with tempfile.TemporaryDirectory() as folder:
+            try:
+                tried(folder)
+                print(f"ok    {tried.__name__}", flush=True)
+            except NotHere as why:
+                print(f"left  {tried.__name__}: no {why}", flush=True)
+            except (Wrong, OSError, KeyError, AssertionError, subprocess.SubprocessError) as why:
+                failed += 1
+                print(f"WRONG {tried.__name__}: {why!r}", flush=True)
+    sys.exit(1 if failed else 0)
+
+
+if __name__ == "__main__":
+    main()

@@ -1,0 +1,265 @@
+#!/usr/bin/env python3
+"""Looks at the page of the window in Chromium (Debian's package), headless: compares the numbers that it shows with those that were
+sent, looks whether a name of a host became a part of it, walks it with the keyboard, and takes pictures at three widths, light and dark.
+
+usage: trials/window_page.py [--pictures FOLDER [--seconds COUNT]]     two hosts work for so long before the first picture
+
+The program is ./arrayd, or what the environment's ARRAYD names. Ends with status 1 where something is otherwise.
+"""
+
+import argparse
+import base64
+import json
+import math
+import os
+import shutil
+import socket
+import struct
+import subprocess
+import sys
+import tempfile
+import time
+import urllib.request
+
+from initiator import Session
+from running import PORT, TARGET, Array, Wrong, made
+from trouble import is_so
+
+AT = 15000 + os.getpid() % 5000
+DEBUG = AT + 25000
+NAME = "iqn.2000-01.test:<script>document.title='owned'</script>"
+ALIAS = "<script>document.title='owned'</script>"
+
+
+class Browser:
+    """A page of a browser, told by the DevTools protocol over a WebSocket (RFC 6455)."""
+
+    def __init__(self, folder):
+        words = ["chromium", "--headless=new", "--no-sandbox", "--disable-gpu", f"--remote-debugging-port={DEBUG}",
+                 f"--user-data-dir={folder}/browser", "--hide-scrollbars", "about:blank"]
+        self.process = subprocess.Popen(words, stdout=subprocess.DEVNULL, stderr=subprocess.DEVNULL)
+        self.socket, self.number = self.connect(self.address()), 0
+        self.do("Page.enable")
+
+    @staticmethod
+    def address():
+        for _ in range(300):
+            try:
+                with urllib.request.urlopen(f"http://127.0.0.1:{DEBUG}/json") as answer:
+                    pages = [one for one in json.load(answer) if one["type"] == "page"]
+                if pages:
+                    return pages[0]["webSocketDebuggerUrl"].split(str(DEBUG), 1)[1]
+            except OSError:
+                pass
+            time.sleep(0.1)
+        raise Wrong("no browser")
+
+    @staticmethod
+    def connect(path):
+        peer = socket.create_connection(("127.0.0.1", DEBUG), timeout=30)
+        key = base64.b64encode(os.urandom(16)).decode()
+        peer.sendall((f"GET {path} HTTP/1.1\r\nHost: 127.0.0.1:{DEBUG}\r\nUpgrade: websocket\r\nConnection: Upgrade\r\n"
+                      f"Sec-WebSocket-Key: {key}\r\nSec-WebSocket-Version: 13\r\n\r\n").encode())
+        head = b""
+        while not head.endswith(b"\r\n\r\n"):
+            head += peer.recv(1)
+        return peer
+
+    def take(self, count):
+        data = b""
+        while len(data) < count:
+            part = self.socket.recv(count - len(data))
+            if not part:
+                raise Wrong("the browser is gone")
+            data += part
+        return data
+
+    def message(self):
+        whole = b""
+        while True:
+            first, length = self.take(2)
+            length &= 0x7F
+            if length == 126:
+                length = struct.unpack(">H", self.take(2))[0]
+            elif length == 127:
+                length = struct.unpack(">Q", self.take(8))[0]
+            whole += self.take(length)
+            if first & 0x80:
+                return json.loads(whole)
+
+    def do(self, method, **words):
+        self.number += 1
+        data = json.dumps({"id": self.number, "method": method, "params": words}).encode()
+        size = struct.pack(">BH", 0xFE, len(data)) if len(data) > 125 else bytes([0x80 | len(data)])
+        mask = os.urandom(4)
+        self.socket.sendall(b"\x81" + size + mask + bytes(b ^ mask[at % 4] for at, b in enumerate(data)))
+        while True:
+            message = self.message()
+            if message.get("id") == self.number:
+                if "error" in message:
+                    raise Wrong(f"{method}: {message['error']}")
+                return message["result"]
+
+    def value(self, expression):
+        told = self.do("Runtime.evaluate", expression=expression, returnByValue=True, awaitPromise=True)
+        if "exceptionDetails" in told:
+            raise Wrong(f"{expression}: {told['exceptionDetails']}")
+        return told["result"].get("value")
+
+    def until(self, expression, seconds=20):
+        end = time.monotonic() + seconds
+        while not self.value(expression):
+            if time.monotonic() > end:
+                raise Wrong(f"never: {expression}")
+            time.sleep(0.1)
+
+    def picture(self, path, width, is_dark):
+        self.look(width, is_dark)
+        height = min(2400, self.value("document.documentElement.scrollHeight"))
+        self.do("Emulation.setDeviceMetricsOverride", width=width, height=height, deviceScaleFactor=1, mobile=False)
+        time.sleep(0.3)
+        shot = self.do("Page.captureScreenshot", format="png")
+        with open(path, "wb") as file:
+            file.write(base64.b64decode(shot["data"]))
+
+    def look(self, width, is_dark):
+        self.do("Emulation.setDeviceMetricsOverride", width=width, height=900, deviceScaleFactor=1, mobile=False)
+        scheme = "dark" if is_dark else "light"
+        self.do("Emulation.setEmulatedMedia", features=[{"name": "prefers-color-scheme", "value": scheme}])
+        time.sleep(0.3)
+
+    def key(self, name, code):
+        for kind in ("keyDown", "keyUp"):
+            self.do("Input.dispatchKeyEvent", type=kind, key=name, code=name, windowsVirtualKeyCode=code,
+                    text="\r" if name == "Enter" and kind == "keyDown" else "")
+
+    def end(self):
+        self.process.terminate()
+        self.process.wait()
+
+
+def cells(page, table, key):
+    return page.value(f"[...document.querySelectorAll('#{table} td[data-key={key}]')].map(cell => cell.textContent)")
+
+
+def numbers(page, first):
+    """What the tables show of what was sent."""
+    page.until("document.querySelectorAll('#unit_table tbody tr').length === 2")
+    is_so("commands", cells(page, "unit_table", "commands"), ["13", "3"])
+    is_so("bytes read", cells(page, "unit_table", "read"), [str(7 * 4096), "0"])
+    is_so("bytes written", cells(page, "unit_table", "written"), [str(3 * 4096), "0"])
+    is_so("conflicts", cells(page, "unit_table", "conflicts"), ["0", "0"])
+    is_so("sessions", cells(page, "session_table", "isid"), ["0x400001370000", "0x400001370001"])
+    is_so("name", cells(page, "session_table", "initiator"), [NAME, "iqn.2000-01.test:other"])
+    is_so("well", page.value("document.getElementById('well').textContent"), "\u2714 well")
+    before = page.value("past.length")
+    for _ in range(5):
+        first.read(0, 0, 8)
+    page.until(f"past.length > {before} && past.some(point => point.one > 0)")
+    is_so("commands then", cells(page, "unit_table", "commands"), ["18", "3"])
+
+
+def is_unharmed(page):
+    """No name of a host is a part of the page."""
+    is_so("title", page.value("document.title"), "arrayd")
+    is_so("scripts", page.value("document.scripts.length"), 1)
+
+
+def is_reached_by_keys(page):
+    page.value("document.activeElement.blur()")
+    reached = []
+    for _ in range(4):
+        page.key("Tab", 9)
+        reached.append(page.value("document.activeElement.id || document.activeElement.getAttribute('aria-label')"))
+    is_so("by Tab", reached, ["pause", "Units", "Sessions", "Controllers"])
+    page.value("document.getElementById('pause').focus()")
+    page.key("Enter", 13)
+    is_so("pressed", page.value("document.getElementById('pause').getAttribute('aria-pressed')"), "true")
+    page.key("Enter", 13)
+    is_so("and again", page.value("document.getElementById('pause').getAttribute('aria-pressed')"), "false")
+
+
+def fits(page):
+    for width in (400, 1000, 2000):
+        page.look(width, False)
+        is_so(f"fits {width}", page.value("document.documentElement.scrollWidth <= innerWidth"), True)
+
+
+def pictures(page, folder, name):
+    if folder:
+        for width in (400, 1000, 2000):
+            for is_dark in (False, True):
+                page.picture(f"{folder}/window-{name}-{width}-{'dark' if is_dark else 'light'}.png", width, is_dark)
+
+
+def worked(hosts, seconds):
+    """Hosts work for so many seconds, now more and now less, so that pictures have lines."""
+    end = time.monotonic() + seconds
+    while (left := end - time.monotonic()) > 0:
+        for unit, host in enumerate(hosts):
+            for _ in range(1 + int(8 * (1 + math.sin(left / (11 + 7 * unit))))):
+                host.read(unit, 0, 64)
+            host.write(unit, 0, bytes(8192))
+        hosts[0].flush(0)
+        time.sleep(0.05)
+
+
+def tried(folder, to, seconds):
+    disks = [made(f"{folder}/disk{unit}", 4096) for unit in range(2)]
+    with Array(disks, more={"ARRAYD_HTTP": f"127.0.0.1:{AT}"}) as array:
+        first = Session("127.0.0.1", PORT, TARGET, NAME, 0x400001370000, keys=[("InitiatorAlias", ALIAS)], timeout=20)
+        second = Session("127.0.0.1", PORT + 4, TARGET, "iqn.2000-01.test:other", 0x400001370001, timeout=20)
+        for unit in range(2):
+            for session in (first, second):
+                session.command(unit, [0] * 6)
+        for _ in range(7):
+            first.read(0, 0, 8)
+        for _ in range(3):
+            first.write(0, 0, bytes(4096))
+        first.command(0, [0] * 6)
+        first.command(1, [0] * 6)
+        page = Browser(folder)
+        try:
+            page.do("Page.navigate", url=f"http://127.0.0.1:{AT}/")
+            numbers(page, first)
+            is_unharmed(page)
+            is_reached_by_keys(page)
+            fits(page)
+            worked([first, second], seconds)
+            pictures(page, to, "healthy")
+            array.ask("down 1")
+            page.until("document.querySelectorAll('.wire.none').length === 2")
+            is_so("owners", cells(page, "unit_table", "owner"), ["controller 2", "controller 2"])
+            pictures(page, to, "down")
+            # The disk of unit 1 becomes shorter: a read behind its end fails.
+            os.truncate(disks[1], 512)
+            second.command(1, [0] * 6)
+            second.command(1, [0x28, 0, 0, 0, 0, 100, 0, 0, 1, 0], expected=512)
+            page.until("document.querySelectorAll('#problems li').length === 1")
+            is_so("wrong", page.value("document.getElementById('well').textContent"), "\u2718 1 wrong")
+            pictures(page, to, "failed")
+            array.kill()
+            page.until("document.getElementById('well').textContent.includes('does not answer')")
+        finally:
+            page.end()
+
+
+def main():
+    words = argparse.ArgumentParser()
+    words.add_argument("--pictures")
+    words.add_argument("--seconds", type=int, default=0)
+    wanted = words.parse_args()
+    if not shutil.which("chromium"):
+        print("left  page: no chromium")
+        return
+    with tempfile.TemporaryDirectory(ignore_cleanup_errors=True) as folder:
+        try:
+            tried(folder, wanted.pictures, wanted.seconds)
+        except Wrong as why:
+            print(f"WRONG page: {why}")
+            sys.exit(1)
+    print("ok    page")
+
+
+if __name__ == "__main__":
+    main()
