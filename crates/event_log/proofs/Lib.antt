@@ -1,1 +1,2 @@
 mod Plain
+pub mod Sent
