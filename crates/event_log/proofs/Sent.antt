@@ -50,8 +50,8 @@ shared_sync = search (sendable, crosses) depth 20
 
 pub log_send : IsSend the_row
 log_send = recorded_send _ _ _ the_type.to_one (struct_send (shape the_type)
-  (search (shared_send, shared_sync, sendable, crosses) depth 20, (search (meters_send, meters_sync, sendable, crosses) depth 20, tt)))
+    (search (shared_send, shared_sync, sendable, crosses) depth 20, (search (meters_send, meters_sync, sendable, crosses) depth 20, tt)))
 
 pub log_sync : IsSync the_row
 log_sync = recorded_sync _ _ _ the_type.to_one (struct_sync (shape the_type)
-  (search (shared_send, shared_sync, sendable, crosses) depth 20, (search (meters_send, meters_sync, sendable, crosses) depth 20, tt)))
+    (search (shared_send, shared_sync, sendable, crosses) depth 20, (search (meters_send, meters_sync, sendable, crosses) depth 20, tt)))
