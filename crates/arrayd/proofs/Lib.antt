@@ -1,2 +1,1 @@
 mod Disks
-mod Sent
