@@ -1,26 +1,34 @@
 -- What counts and keeps lines may be held by several threads, part by part: its parts lie too deep for one search.
-use denote.Param.Send.{IsSend, IsSync, sendable}
+use denote.Param.Send.{IsSend, IsSync, recorded_send, recorded_sync, struct_send, struct_sync, sendable}
+use denote.Struct.Declared.{shape}
 use Rattle.std.proofs.Crossing.{crosses}
 use Rattle.event_log.specs.contracts.counts.Counts.{the_row as counts_row}
 use Rattle.event_log.specs.contracts.happenings.Happenings.{the_row as happenings_row}
-use Rattle.event_log.specs.contracts.log.Log.{the_field}
+use Rattle.event_log.specs.contracts.log.Log.{the_row, the_type}
 use Rattle.event_log.specs.contracts.log.Shared.{the_row as shared_row}
 use Rattle.event_log.specs.contracts.meters.Book.{the_row as book_row}
 use Rattle.event_log.specs.contracts.meters.Meter.{the_row as meter_row}
 use Rattle.event_log.specs.contracts.meters.Meters.{the_row as meters_row}
 use Rattle.event_log.specs.contracts.meters.Shown.{the_row as shown_row}
+use Rattle.event_log.specs.contracts.meters.Visit.{the_row as visit_row}
 
 counts_send : IsSend counts_row
 counts_send = search (sendable, crosses) depth 20
+
+visit_send : IsSend visit_row
+visit_send = search (sendable, crosses) depth 20
+
+visit_sync : IsSync visit_row
+visit_sync = search (sendable, crosses) depth 20
 
 shown_send : IsSend shown_row
 shown_send = search (counts_send, sendable, crosses) depth 20
 
 meter_send : IsSend meter_row
-meter_send = search (shown_send, sendable, crosses) depth 20
+meter_send = search (visit_send, shown_send, sendable, crosses) depth 20
 
 meter_sync : IsSync meter_row
-meter_sync = search (shown_send, sendable, crosses) depth 20
+meter_sync = search (visit_sync, shown_send, sendable, crosses) depth 20
 
 book_send : IsSend book_row
 book_send = search (counts_send, meter_send, meter_sync, sendable, crosses) depth 20
@@ -40,9 +48,10 @@ shared_send = search (sendable, crosses) depth 20
 shared_sync : IsSync shared_row
 shared_sync = search (sendable, crosses) depth 20
 
--- As what has a log needs it of its field.
-pub log_send : IsSend the_field.row
-log_send = search (shared_send, shared_sync, meters_send, meters_sync, sendable, crosses) depth 20
+pub log_send : IsSend the_row
+log_send = recorded_send _ _ _ the_type.to_one (struct_send (shape the_type)
+    (search (shared_send, shared_sync, sendable, crosses) depth 20, (search (meters_send, meters_sync, sendable, crosses) depth 20, tt)))
 
-pub log_sync : IsSync the_field.row
-log_sync = search (shared_send, shared_sync, meters_send, meters_sync, sendable, crosses) depth 20
+pub log_sync : IsSync the_row
+log_sync = recorded_sync _ _ _ the_type.to_one (struct_sync (shape the_type)
+    (search (shared_send, shared_sync, sendable, crosses) depth 20, (search (meters_send, meters_sync, sendable, crosses) depth 20, tt)))
