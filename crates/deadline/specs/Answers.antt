@@ -23,6 +23,12 @@ pub record HasWritten {B : Type 0} (claims : Bool) (contents : B → List (List 
   pub after : B
   pub wrote : IsTrue claims → contents after ≡ written (contents before) first (run_of bytes)
 
+-- so many bytes were written, from this block on
+pub record HasWrittenSome {B : Type 0} (claims : Bool) (contents : B → List (List ℕ)) (first : ℕ) (count : ℕ) : Type 0 where
+  pub bytes : List ℕ
+  pub many : length bytes ≡ count
+  pub written : HasWritten claims contents first bytes
+
 -- a device was flushed: a crash leaves what it had
 pub record HasFlushed {B : Type 0} (claims : Bool) (contents : B → List (List ℕ)) (may_hold : B → ℕ → List ℕ → Type 0) : Type 0
   where

@@ -3,7 +3,7 @@ ghost use Rattle.std.specs.Prelude.{◌≡◌, ◌<◌, ◌≤◌, ◌+◌, ◌^
 ghost use Rattle.std.proofs.Common.{arith};
 ghost use Rattle.block_file.specs.Cut.{IsRun};
 ghost use Rattle.block_file.specs.Failures.{Counts, last_count};
-ghost use Rattle.deadline.specs.Answers.{HasAnswered, HasFlushed, HasOpened, HasRead, HasWritten};
+ghost use Rattle.deadline.specs.Answers.{HasAnswered, HasFlushed, HasOpened, HasRead, HasWritten, HasWrittenSome};
 
 use crate::errand::{Errand, Served, Wanted};
 use crate::hatch::Asker;
@@ -108,7 +108,9 @@ fn write_by<R: Wait + Clock + Drop, B: Blocks, O: Opener<B>>(
     asker: &mut Asker<R, Errand<B, O>>,
     first: u32,
     bytes: &[u8],
-) -> bool {
+) -> bool
+    ensures { IsTrue result → HasWrittenSome B.claims B.contents first (length bytes.now) }
+{
     let wanted = Wanted::Write(first);
     let Some(errand) = asker.take() else {
         return false;
@@ -231,20 +233,21 @@ impl<R: Wait + Clock + Drop, B: Blocks, O: Opener<B>> Blocks for Deadlined<R, B,
         ensures failed_writes { self.new.failed_writes ≡ self.old.failed_writes }
         ensures opened { (self.new.opened ≡ self.old.opened) × (self.new.node ≡ self.old.node) }
     {
-        let is_read = read_by(&mut self.asker.lock(&self.rt), first, bytes);
+        let is_read = read_by(self.asker.get_mut(), first, bytes);
         ended(is_read, &mut self.failed_reads)
     }
 
     fn write_run(&mut self, first: u32, bytes: &[u8]) -> Result<(), DeviceFailed>
         requires { IsRun self.old.count first (length bytes.now) }
         ensures size { self.new.count ≡ self.old.count }
+        ensures answered { OnOk result (HasWrittenSome B.claims B.contents first (length bytes.now)) }
         ensures failures { Counts (min (self.old.failed_reads + self.old.failed_writes) last_count)
             (min (self.new.failed_reads + self.new.failed_writes) last_count) result }
         ensures failed_reads { self.new.failed_reads ≡ self.old.failed_reads }
         ensures failed_writes { Counts (min self.old.failed_writes last_count) (min self.new.failed_writes last_count) result }
         ensures opened { (self.new.opened ≡ self.old.opened) × (self.new.node ≡ self.old.node) }
     {
-        let is_written = write_by(&mut self.asker.lock(&self.rt), first, bytes);
+        let is_written = write_by(self.asker.get_mut(), first, bytes);
         ended(is_written, &mut self.failed_writes)
     }
 
@@ -257,7 +260,7 @@ impl<R: Wait + Clock + Drop, B: Blocks, O: Opener<B>> Blocks for Deadlined<R, B,
         ensures failed_writes { Counts (min self.old.failed_writes last_count) (min self.new.failed_writes last_count) result }
         ensures opened { (self.new.opened ≡ self.old.opened) × (self.new.node ≡ self.old.node) }
     {
-        let is_flushed = flush_by(&mut self.asker.lock(&self.rt));
+        let is_flushed = flush_by(self.asker.get_mut());
         ended(is_flushed, &mut self.failed_writes)
     }
 }

@@ -87,8 +87,12 @@ impl<B: Blocks, O: Opener<B>> Errand<B, O> {
     }
 
     /// Whether this was wanted, and was done with so many bytes.
-    pub(crate) fn has_done_all(&self, wanted: Wanted, length: usize) -> bool {
-        self.has_done(wanted) && self.bytes.len() == length
+    pub(crate) fn has_done_all(&self, wanted: Wanted, count: usize) -> bool
+        ensures answered { IsTrue result
+            → HasAnswered B.claims B.contents B.may_hold O.opened wanted self.now.bytes }
+        ensures all { IsTrue result → length self.now.bytes ≡ count }
+    {
+        self.has_done(wanted) && self.bytes.len() == count
     }
 
     /// Gives the bytes, where this was wanted, and was done with so many.
