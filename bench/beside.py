@@ -9,6 +9,7 @@ named.
 
 usage: bench/beside.py [--seconds N] [--runs N] [--only WORDS] [--size MIB] [--depths N,..] [--before PROGRAM] [--controller C]
        bench/beside.py --limit ..       beside the limit alone
+       bench/beside.py --limit --letters LETTERS ..     beside a limit that reads into a buffer, as limit.c says
 
 The program is $ARRAYD, or ./arrayd. Sessions go through controller C of an arrayd; 1 owns the unit.
 """
@@ -93,9 +94,10 @@ class Tgt:
 class Limit:
     unit = 0
     program = ""
+    letters = []
 
     def __init__(self, disk):
-        self.process = subprocess.Popen([Limit.program, str(PORT), disk], stdout=subprocess.PIPE, text=True)
+        self.process = subprocess.Popen([Limit.program, str(PORT), disk, *Limit.letters], stdout=subprocess.PIPE, text=True)
         if self.process.stdout.readline() != "limit: ready\n":
             sys.exit("the limit does not get ready")
 
@@ -162,8 +164,10 @@ def main():
     words.add_argument("--depths", default="1,32", help="how many commands a session has open")
     words.add_argument("--before", help="another arrayd, in place of tgt")
     words.add_argument("--limit", action="store_true", help="beside the limit alone")
+    words.add_argument("--letters", help="how the limit sends what is read")
     words.add_argument("--controller", type=int, choices=(1, 2), default=1, help="of an arrayd, which sessions go through")
     asked = words.parse_args()
+    Limit.letters = [asked.letters] if asked.letters else []
     with tempfile.TemporaryDirectory(dir="/dev/shm") as place:
         client, Limit.program = os.path.join(place, "client"), os.path.join(place, "limit")
         bench = os.path.join(TOP, "bench")

@@ -3,7 +3,17 @@
  * writev. One thread serves a connection; the blocks are a file that is mapped: a read's data goes out from there, a write's is
  * copied there. Answers that left together would take less where many commands are open: arrayd's do.
  *
- * usage: limit PORT FILE        Build: cc -O2 -pthread -o limit limit.c */
+ * With letters behind its file it sends the data of long READs as a program does that reads them into a buffer, to tell what each
+ * step of that costs: in Data-In of 65536 bytes with a response behind them, which leaves with what follows it. All of a READ
+ * leaves by one call.
+ *     z  the buffer is set to zeros before each READ
+ *     c  the data is copied behind the headers
+ *     e  each Data-In leaves by a call of its own
+ *     t  two Data-In leave by a call
+ *     l  there is one Data-In of all data
+ *     n  none of these
+ *
+ * usage: limit PORT FILE [LETTERS]        Build: cc -O2 -pthread -o limit limit.c */
 
 #include <arpa/inet.h>
 #include <endian.h>
@@ -19,7 +29,7 @@
 #include <sys/uio.h>
 #include <unistd.h>
 
-enum { BHS = 48, INBOX = 1 << 20, TAGS = 65536, BURST = 262144 };
+enum { BHS = 48, INBOX = 1 << 20, TAGS = 65536, BURST = 262144, SEGMENT = 65536, SEGMENTS = BURST / SEGMENT };
 
 typedef struct {
     int socket;
@@ -28,10 +38,15 @@ typedef struct {
     unsigned char *next[TAGS];
     uint32_t done[TAGS], left[TAGS];
     unsigned char inbox[INBOX];
+    /* where letters are given: whether a response waits; what was read; what it is copied to */
+    int waits;
+    unsigned char response[BHS], data[BURST], out[BURST + BHS * (SEGMENTS + 1)];
 } Session;
 
 static unsigned char *map;
 static uint64_t size;
+static int file;
+static const char *letters = "";
 static const char KEYS[] = "HeaderDigest=None\0DataDigest=None\0InitialR2T=Yes\0ImmediateData=Yes\0MaxBurstLength=262144\0"
     "FirstBurstLength=65536\0MaxRecvDataSegmentLength=262144\0MaxOutstandingR2T=1\0ErrorRecoveryLevel=0\0MaxConnections=1\0"
     "DefaultTime2Wait=0\0DefaultTime2Retain=0\0DataPDUInOrder=Yes\0DataSequenceInOrder=Yes";
@@ -52,22 +67,75 @@ static void header(Session *s, unsigned char *out, const unsigned char *came, in
     put32(out + 32, s->cmd_sn + 127);
 }
 
-/* Writes a PDU. */
-static void put(Session *s, unsigned char *out, const void *data, uint32_t length) {
-    struct iovec parts[2] = {{out, BHS}, {(void *)data, (length + 3) / 4 * 4}}, *part = parts;
-    put32(out + 4, length);
-    while (parts[1].iov_len || parts[0].iov_len) {
-        ssize_t n = writev(s->socket, part, parts + 2 - part);
+/* Writes all of these parts. */
+static void put_parts(Session *s, struct iovec *part, int count) {
+    for (struct iovec *end = part + count; part < end;) {
+        ssize_t n = writev(s->socket, part, end - part);
         if (n <= 0)
             pthread_exit(NULL);
-        for (part = parts; part < parts + 2; part++) {
-            size_t took = (size_t)n < part->iov_len ? (size_t)n : part->iov_len;
-            part->iov_base = (char *)part->iov_base + took;
-            part->iov_len -= took;
-            n -= took;
+        for (; part < end && (size_t)n >= part->iov_len; part++)
+            n -= part->iov_len;
+        if (part < end) {
+            part->iov_base = (char *)part->iov_base + n;
+            part->iov_len -= n;
         }
-        part = parts[0].iov_len ? parts : parts + 1;
     }
+}
+
+/* Writes a PDU. */
+static void put(Session *s, unsigned char *out, const void *data, uint32_t length) {
+    struct iovec parts[2] = {{out, BHS}, {(void *)data, (length + 3) / 4 * 4}};
+    put32(out + 4, length);
+    put_parts(s, parts, 2);
+}
+
+/* Writes these parts, copied behind each other where that is wanted. */
+static void put_read(Session *s, struct iovec *parts, int count) {
+    size_t n = 0;
+    if (!strchr(letters, 'c'))
+        return put_parts(s, parts, count);
+    for (int i = 0; i < count; n += parts[i++].iov_len)
+        memcpy(s->out + n, parts[i].iov_base, parts[i].iov_len);
+    put_parts(s, &(struct iovec){s->out, n}, 1);
+}
+
+/* The data of a READ, read into a buffer. */
+static void answer_read(Session *s, const unsigned char *came, uint64_t at, uint32_t bytes) {
+    uint32_t most = strchr(letters, 'l') ? BURST : SEGMENT, sn = 0;
+    int together = strchr(letters, 'e') ? 1 : strchr(letters, 't') ? 2 : SEGMENTS, count = 0;
+    unsigned char heads[SEGMENTS][BHS];
+    struct iovec parts[2 * SEGMENTS + 1];
+    if (strchr(letters, 'z'))
+        memset(s->data, 0, bytes);
+    if (pread(file, s->data, bytes, at) != (ssize_t)bytes)
+        pthread_exit(NULL);
+    if (s->waits)
+        parts[count++] = (struct iovec){s->response, BHS};
+    for (uint32_t from = 0, length; from < bytes; from += length) {
+        unsigned char *out = heads[sn];
+        length = bytes - from < most ? bytes - from : most;
+        header(s, out, came, 0x25, from + length == bytes ? 0x80 : 0);
+        put32(out + 4, length);
+        put32(out + 36, sn++);
+        put32(out + 40, from);
+        parts[count++] = (struct iovec){out, BHS};
+        parts[count++] = (struct iovec){s->data + from, length};
+        if (from + length == bytes || sn % together == 0) {
+            put_read(s, parts, count);
+            count = 0;
+        }
+    }
+    header(s, s->response, came, 0x21, 0x80);
+    s->stat_sn++;
+    s->waits = 1;
+}
+
+/* What waits goes out before more is read. */
+static ssize_t read_more(Session *s, unsigned char *to, size_t room) {
+    if (s->waits)
+        put_parts(s, &(struct iovec){s->response, BHS}, 1);
+    s->waits = 0;
+    return read(s->socket, to, room);
 }
 
 /* Data of a write came: its end, or the R2T for more of it. */
@@ -106,6 +174,8 @@ static void command(Session *s, const unsigned char *came, const unsigned char *
         s->done[tag] = 0;
         return take(s, came, data, length);
     }
+    if (*letters && (cdb[0] == 0x28 || cdb[0] == 0x88) && bytes >= SEGMENT / 2 && bytes <= BURST && bytes <= most)
+        return answer_read(s, came, at % size, bytes);
     const void *reply = map + at % size;
     if (cdb[0] == 0x12) {
         reply = inquiry;
@@ -149,7 +219,7 @@ static void pdu(Session *s, const unsigned char *came, const unsigned char *data
 static void *serve(void *of) {
     Session *s = of;
     size_t from = 0, to = 0;
-    for (ssize_t n; (n = read(s->socket, s->inbox + to, INBOX - to)) > 0;) {
+    for (ssize_t n; (n = read_more(s, s->inbox + to, INBOX - to)) > 0;) {
         for (to += n; to - from >= BHS;) {
             uint32_t length = get32(s->inbox + from + 4) & 0xFFFFFF;
             size_t end = from + BHS + (length + 3) / 4 * 4;
@@ -165,9 +235,12 @@ static void *serve(void *of) {
 }
 
 int main(int count, char **words) {
-    if (count != 3)
+    if (count != 3 && count != 4)
         return 2;
-    int file = open(words[2], O_RDWR), on = 1, door = socket(AF_INET, SOCK_STREAM, 0);
+    if (count == 4)
+        letters = words[3];
+    file = open(words[2], O_RDWR);
+    int on = 1, door = socket(AF_INET, SOCK_STREAM, 0);
     struct stat found;
     struct sockaddr_in here = {.sin_family = AF_INET, .sin_port = htons(atoi(words[1])), .sin_addr = {htonl(INADDR_LOOPBACK)}};
     if (file < 0 || fstat(file, &found))
