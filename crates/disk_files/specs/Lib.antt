@@ -4,3 +4,4 @@ pub mod Lasting
 pub mod Lengths
 pub mod Tally
 pub mod System
+pub mod Told

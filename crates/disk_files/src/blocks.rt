@@ -3,6 +3,7 @@ ghost use Rattle.std.specs.Prelude.{◌≡◌, ◌⊎◌, ◌<◌, ◌≤◌, �
 ghost use Rattle.std.specs.Prelude.{IfOk, IfErr, IfSome, IsSomeAnd, IsTrue, IsErr, OnOk, OnErr};
 ghost use Rattle.std.specs.Arc.{arc_value};
 ghost use Rattle.std.proofs.Common.{arith};
+ghost use Rattle.std.proofs.Props.{props};
 ghost use Rattle.block_file.specs.declared.blocks.TheConstants.{BLOCK_LENGTH};
 ghost use Rattle.block_file.specs.Cut.{run_of, IsRun};
 ghost use Rattle.block_file.specs.Disk.{written, range_bytes, Between, NoMore, Adds, Only};
@@ -11,6 +12,7 @@ ghost use Rattle.disk_files.specs.BackingLaws.{as_many, as_wide, lies_before};
 ghost use Rattle.disk_files.specs.Tally.{none, all_failures, once_more_opened};
 ghost use Rattle.disk_files.specs.Lasting.{IsSettled};
 ghost use Rattle.disk_files.specs.Lengths.{IsLengthFault};
+ghost use Rattle.disk_files.specs.Told.{has_told};
 
 use crate::FileFault;
 use crate::backing::BackingFile;
@@ -51,6 +53,7 @@ pub struct FileBlocks<F: BackingFile> {
     ghost some: { 0 < count },
     ghost whole: { IsTrue F.claims → length (F.bytes file) ≡ BLOCK_LENGTH * count },
     ghost alone: { IsTrue F.claims → flushes ≡ None },
+    ghost told: { IfSome flushes (λ beside. IsTrue (has_told (arc_value beside) writes.count)) } by { Prim.hlevel props },
 }
 
 /// How many blocks a file of so many bytes has.
@@ -393,7 +396,8 @@ fn at(first: u32) -> u64
 // How many writes have ended behind one more, well or not.
 fn one_more<F: BackingFile>(written: u64, flushes: &Option<Arc<Flushes<F>, Global>>) -> Writes<F>
     requires { IsTrue (F.ended (min (written + 1) last_count)) }
-    ensures { result.count ≡ min (written + 1) last_count }
+    ensures count { result.count ≡ min (written + 1) last_count }
+    ensures told { IfSome flushes.now (λ beside. IsTrue (has_told (arc_value beside) result.count)) }
 {
     let written = written.saturating_add(1);
     if let Some(flushes) = flushes {

@@ -1,6 +1,7 @@
 //! A file made ready for the calls of its device.
-ghost use Rattle.std.specs.Prelude.{◌≡◌, ℕ, true, IfSome, IsSomeAnd};
+ghost use Rattle.std.specs.Prelude.{◌≡◌, true, IfSome, IsSomeAnd};
 ghost use Rattle.std.specs.Arc.{arc_value};
+ghost use Rattle.disk_files.specs.Told.{HasFlushed};
 
 use crate::FileBlocks;
 use crate::backing::BackingFile;
@@ -263,7 +264,7 @@ impl<R: Clock + Wait + Drop, F: LastingFile> Preparer for FilePreparer<R, F> {
 
     ghost disk = { λ p. p.node };
 
-    ghost has_flushed = { λ disk. (writes : ℕ) × F.lasts disk writes };
+    ghost has_flushed = { λ disk. HasFlushed disk (F.lasts disk) };
 
     fn is_slow(&self) -> bool {
         self.slow.load(Ordering::Relaxed) >= IN_A_ROW

@@ -1,6 +1,7 @@
 //! Flushes of a file beside its device.
-ghost use Rattle.std.specs.Prelude.{◌≡◌, ℕ, IsTrue, OnOk, false};
+ghost use Rattle.std.specs.Prelude.{◌≡◌, IsTrue, OnOk, false};
 ghost use Rattle.disk_files.specs.Lasting.{IsSettled};
+ghost use Rattle.disk_files.specs.Told.{has_told, were_told, HasFlushed};
 
 use crate::backing::{BackingFile, Counted};
 use disk_preparer::Node;
@@ -119,10 +120,22 @@ impl<F: BackingFile> Flushes<F> {
     }
 
     /// So many writes of the device have ended.
+    #[tactic(auto, using(crate::specs::Told::a_tell_says))]
     pub fn tell(&self, written: u64)
         requires { IsTrue (F.ended written) }
+        ensures { IsTrue (has_told self.now written) }
     {
         self.written.store(written, Ordering::Release);
+    }
+
+    // How many writes of the device of this file have ended, as it has told.
+    #[tactic(auto, using(crate::specs::Told::a_look_says))]
+    fn look(&self, node: Node) -> u64
+        ensures ended { IsTrue (F.ended result) }
+        ensures told { were_told node result }
+    {
+        let _ = node;
+        self.written.load(Ordering::Acquire)
     }
 
     /// A flush has failed, the device's or one beside it: none that comes later makes that good.
@@ -149,12 +162,12 @@ impl<F: BackingFile> Flushes<F> {
 impl<F: LastingFile> Flushes<F> {
     /// Makes last what the writes of this file left that have ended by now. A failure is remembered, and told by each later flush.
     pub fn flush<R: Wait>(&self, rt: &R, node: Node) -> Result<(), FlushFault>
-        ensures { OnOk result ((writes : ℕ) × F.lasts node writes) }
+        ensures { OnOk result (HasFlushed node (F.lasts node)) }
     {
         if self.handles.is_empty() {
             return Err(FlushFault::Lost);
         }
-        let wanted = self.written.load(Ordering::Acquire);
+        let wanted = self.look(node);
         let turn = self.turns.fetch_add(1, Ordering::Relaxed) % self.handles.len();
         let handle = self.handles[turn].lock(rt);
         // One that failed by this handle was told of it, and the system tells no other.
@@ -168,7 +181,7 @@ impl<F: LastingFile> Flushes<F> {
         if !handle.node().is(node) {
             return Err(FlushFault::Lost);
         }
-        let writes = self.written.load(Ordering::Acquire);
+        let writes = self.look(node);
         match handle.make_last(writes) {
             // One that ran beside it may have had its blocks in hand.
             Ok(()) if self.is_lost() => Err(FlushFault::Lost),
