@@ -28,4 +28,4 @@ pub serve-end-requires-clause-disks : goal.serve-end-requires-clause-disks
 serve-end-requires-clause-disks g c κs = units_are _ _
 
 pub serve-end-requires-clause-prepared : goal.serve-end-requires-clause-prepared
-serve-end-requires-clause-prepared g c κs = preparers_are _ _ _ c.in-Ok-open.ensures.disks
+serve-end-requires-clause-prepared g c κs = preparers_are _ _ _ c.in-Ok.ensures.disks
