@@ -33,7 +33,7 @@ for page in arrayd.8 arrayd-reg.8; do
     sed -i "s/^\.Os\$/.Os \"arrayd $(cat "$top/VERSION")\"/" "$DESTDIR/usr/share/man/man8/$page"
 done
 install -d -m 0755 "$documents/docs" "$documents/examples"
-install -m 0644 "$top/README.md" "$top/CHANGELOG.md" "$documents"
+install -m 0644 "$top/README.md" "$top/CHANGELOG.md" "$top/CONTRIBUTING.md" "$top/SECURITY.md" "$documents"
 install -m 0644 "$top"/docs/*.* "$documents/docs"
 install -m 0644 "$here/example.conf" "$here/hosts.conf" "$documents/examples"
 # a dashboard for Grafana, where there is one

@@ -470,6 +470,10 @@ NEVER = {
     ("connection_ended", "why", "logout"): "who has not logged in is refused: login_refused",
     ("connection_ended", "why", "replaced_by_same_initiator"): "who has not logged in has no place that another takes",
     ("command_failed", "command", "other"): "no other command reaches a device",
+    ("device_failed", "error", "EAGAIN"): "no file is opened so that its calls do not wait",
+    ("device_failed", "error", "ENOPROTOOPT"): "only a call on a socket ends so",
+    **{("device_failed", "error", error): "only an open anew ends so, and no case takes the name away like that" for error in (
+        "EISDIR", "ELOOP", "ENAMETOOLONG", "ENOTDIR", "EPERM")},
     **{("login_refused", "words", words): "the array never answers so" for words in (
         "Authorization failure", "Target removed", "Can't include in session", "Target error", "Service unavailable")},
 }
