@@ -15,7 +15,7 @@ import tempfile
 sys.path.append(f"{sys.path[0]}/../tools")
 import proved
 
-USES = "aptpl_file array_units block_file unit_sequence registrants scsi_types unit_history unit_state".split()
+USES = "aptpl_file array_units block_file unit_sequence registrants scsi_types unit_entries unit_history unit_state".split()
 KINDS = {"test": "TEST UNIT READY", "read": "READ of 8 blocks", "write": "WRITE of 8 blocks"}
 BARE, ALONE = (1, 0), (1, 1)
 SETTINGS = {
