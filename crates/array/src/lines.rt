@@ -40,8 +40,8 @@ pub trait Operations {
     fn flush(&mut self);
 }
 
-// Writes a line for each unit.
-fn say_status<W: Write, A: Operations>(writer: &mut W, array: &mut A) -> io::Result<()> {
+/// Writes a line for each unit.
+pub(crate) fn say_status<W: Write, A: Operations>(writer: &mut W, array: &mut A) -> io::Result<()> {
     for unit in 0..=u8::MAX {
         let Some(row) = array.status(unit) else {
             break;
@@ -60,8 +60,8 @@ fn say_down<W: Write>(writer: &mut W, end: Result<(), usize>) -> io::Result<()> 
     }
 }
 
-// The text of a line, which may end by CR LF. None: it is no UTF-8.
-fn text_of(line: &[u8]) -> Option<&str> {
+/// The text of a line, which may end by CR LF. None: it is no UTF-8.
+pub(crate) fn text_of(line: &[u8]) -> Option<&str> {
     let text = match line {
         [text @ .., b'\r'] => text,
         _ => line,

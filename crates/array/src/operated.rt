@@ -3,15 +3,19 @@ use crate::lines::Operations;
 use block_file::{Blocks, Opener};
 use command_line::MAX_UNITS;
 use event_log::{Access, By, Event, Log, Stayed};
-use failover::{Mover, NotMoved, take_down};
+use failover::{Mover, NotMoved, bring_up, preferred, take_down};
 use portal::Controllers;
 use scsi_types::Group;
 use status::Row;
+use std::alloc::{AllocError, Global};
 use std::sync::Wait;
 use std::time::Clock;
 use unit_history::Opened;
 use unit_sequence::Array as Naming;
 use unit_state::MoveFault;
+
+/// The code of the access state unavailable (SPC-4, 5.15.2.2).
+const UNAVAILABLE: u64 = 3;
 
 /// Both controllers, as the console sees them.
 #[derive(Drop)]
@@ -60,6 +64,65 @@ impl<R: Wait + Clock, B: Blocks, F: Blocks, O: Opener<B>, N: Naming<Opened>> Ope
     fn tell_set(&self, before: &[(u64, u64); MAX_UNITS], owner: u16) {
         for (place, (before, now)) in before.iter().zip(&self.states()).enumerate() {
             if before != now {
+                let (first, second) = (Access::of(now.0), Access::of(now.1));
+                let set = Event::GroupsSet(number(place), owner, first, second, By::Console);
+                self.log.tell(self.rt, &set);
+            }
+        }
+    }
+}
+
+// Whether a controller that comes up concerns a unit with these states: the unit prefers it, or cannot be reached by it.
+fn concerns(controller: Group, place: usize, states: (u64, u64)) -> bool {
+    let state = match controller {
+        Group::One => states.0,
+        Group::Two => states.1,
+    };
+    preferred(place) == controller || state == UNAVAILABLE
+}
+
+impl<R: Wait + Clock, B: Blocks, F: Blocks, O: Opener<B>, N: Naming<Opened>> Operated<
+    '_,
+    R,
+    B,
+    F,
+    O,
+    N,
+> {
+    /// Brings a controller up, unit by unit: each that prefers it gets it as its owner, and it is active/non-optimized for each
+    /// other at which it was unavailable. The first unit that does not move is told; those behind it stay.
+    pub(crate) fn up(
+        &mut self,
+        alloc: Global,
+        controller: Group,
+    ) -> Result<Result<(), usize>, AllocError> {
+        let units = self.controllers.units();
+        let before = self.states();
+        let mut chosen = Vec::with_capacity(alloc, MAX_UNITS)?;
+        for (place, states) in before.iter().enumerate() {
+            if place < units.count() {
+                chosen.push(concerns(controller, place, *states))?;
+            }
+        }
+        let mut mover = Mover::new(units);
+        let end = bring_up(self.rt, &mut mover, &chosen);
+        self.tell_up(&before);
+        match end {
+            Ok(()) => Ok(Ok(())),
+            Err(NotMoved { unit, why }) => {
+                let owner = u16::from(preferred(unit).number());
+                let stays = Event::NotMoved(number(unit), owner, stayed(why), By::Console);
+                self.log.tell(self.rt, &stays);
+                Ok(Err(unit))
+            }
+        }
+    }
+
+    // Tells of each unit at which the states are others than these, and the owner with them.
+    fn tell_up(&self, before: &[(u64, u64); MAX_UNITS]) {
+        for (place, (before, now)) in before.iter().zip(&self.states()).enumerate() {
+            if before != now {
+                let owner = u16::from(preferred(place).number());
                 let (first, second) = (Access::of(now.0), Access::of(now.1));
                 let set = Event::GroupsSet(number(place), owner, first, second, By::Console);
                 self.log.tell(self.rt, &set);

@@ -6,11 +6,12 @@ ghost use Rattle.portal.specs.Lanes.{AreLanesOf};
 ghost use Rattle.scsi_types.specs.declared.names.Group.TheVariants.{One, Two};
 ghost use Rattle.unit_history.specs.Naming.{IsNamed};
 
+use crate::administration::{Administration, Sockets, answer, control_path, open};
+use crate::control;
 use crate::disks::OpenArray;
 use crate::lines::{Operations, console};
 use crate::operated::Operated;
 use crate::portals::{self, Portal, Ports};
-use crate::sight::Lookout;
 use array_units::Units;
 use block_file::{Blocks, Opener};
 use command_line::{Fault, MAX_UNITS, Options};
@@ -22,9 +23,11 @@ use portal::{
 };
 use scsi_types::Group;
 use std::alloc::Global;
+use std::fs::File;
 use std::io::{BufRead, Write};
 use std::net::{Net, SocketAddrV4, TcpListener, TcpStream};
 use std::random::RandomSource;
+use std::rt::Files;
 use std::sync::{Arc, Wait};
 use std::thread::Threads;
 use std::time::Clock;
@@ -32,7 +35,7 @@ use unit_history::{LegalHistory, NewUnit, Opened, Pass};
 use unit_sequence::Array as Naming;
 
 /// What the portals serve.
-type Served<B, F, O, N, G> = Arc<Server<Controllers<B, F, O, N>, G>, Global>;
+pub(crate) type Served<B, F, O, N, G> = Arc<Server<Controllers<B, F, O, N>, G>, Global>;
 
 // By what hosts find the array: the target's name, and where each controller's portals listen; and the log that is told.
 #[derive(Drop)]
@@ -162,40 +165,6 @@ fn attend<A: Operations, I: BufRead + Drop, C: Write>(
     console(alloc, reader, writer, array);
 }
 
-/// Where the window is that is to be opened: the socket that listens there, and the version that it tells.
-#[derive(Drop)]
-pub struct Pane {
-    pub listener: TcpListener,
-    pub version: &'static str,
-}
-
-// Opens the window on what is served, where one is wanted.
-fn open_window<
-    N: Naming<Opened> + Send + Sync + 'static,
-    B: Blocks + Send + Sync + 'static,
-    F: Blocks + Send + Sync + 'static,
-    O: Opener<B> + Send + Sync + 'static,
-    G: Gate + Drop + Send + Sync + 'static,
-    R: Threads + Wait + Clock + RandomSource + Clone + Drop + Send + Sync + 'static,
->(
-    rt: &R,
-    alloc: Global,
-    options: &Options<'_>,
-    server: &Served<B, F, O, N, G>,
-    pane: Option<Pane>,
-) -> Result<(), Fault> {
-    let Some(Pane { listener, version }) = pane else {
-        return Ok(());
-    };
-    let mine = rt.clone()?;
-    let server = Arc::try_clone(server)?;
-    let lookout = Lookout::new(mine, alloc, options, version, server)?;
-    match window::open(rt, alloc, listener, lookout) {
-        Ok(()) => Ok(()),
-        Err(_) => Err(Fault::NoMemory),
-    }
-}
-
 // Serves these units, behind this gate, at the portals that the words ask for.
 fn serve_units<
     N: Naming<Opened> + Send + Sync + 'static,
@@ -220,7 +189,7 @@ fn serve_units<
     units: Vec<NewUnit<B, F, O>>,
     gate: G,
     log: &Log,
-    pane: Option<Pane>,
+    sockets: Sockets,
 ) -> Result<Served<B, F, O, N, G>, Fault>
     requires named { IsNamed N.book N.table N.opening B.contents units.items }
     requires count { length units.items ≤ MAX_UNITS }
@@ -237,7 +206,7 @@ fn serve_units<
     let first = start::<N, B, F, O, G, R>(rt, alloc, &server, Group::One)?;
     let second = start::<N, B, F, O, G, R>(rt, alloc, &server, Group::Two)?;
     let lanes = (first, second);
-    open_window::<N, B, F, O, G, R>(rt, alloc, options, &server, pane)?;
+    answer::<N, B, F, O, G, R>(rt, alloc, options, &server, sockets)?;
     accept_at::<N, B, F, O, G, R>(rt, alloc, &server, portals, &lanes)?;
     Ok(server)
 }
@@ -249,15 +218,13 @@ pub fn tell_want<R: Clock>(rt: &R, log: &Log, fault: Fault) {
     }
 }
 
-/// Serves an array whose files are open, at the portals that the words ask for, until its console has no more lines for it or says
-/// `quit`. Behind it the last lines of the log are written, and only then another server may have the files. The names of the
-/// units and of their disks are picked where it is called: the preparer at each place is of the file that the unit there is over.
-pub fn serve<
-    N: Naming<Opened> + Disks + Send + Sync + 'static,
-    B: Blocks + OnDisk + Send + Sync + 'static,
+// Serves these units until the console ends. Why they could not be served is told.
+fn serve_to_the_end<
+    N: Naming<Opened> + Send + Sync + 'static,
+    B: Blocks + Send + Sync + 'static,
     F: Blocks + Send + Sync + 'static,
     O: Opener<B> + Send + Sync + 'static,
-    P: Preparer + Send + Sync + 'static,
+    G: Gate + Drop + Send + Sync + 'static,
     R: Threads
         + Wait
         + Clock
@@ -274,26 +241,17 @@ pub fn serve<
     rt: &R,
     alloc: Global,
     options: &Options<'_>,
-    array: OpenArray<B, F, O, P>,
+    units: Vec<NewUnit<B, F, O>>,
+    gate: G,
     log: &Log,
-    pane: Option<Pane>,
+    sockets: Sockets,
     reader: I,
     writer: &mut C,
 ) -> Result<(), Fault>
-    requires named { IsNamed N.book N.table N.opening B.contents array.units.items }
-    requires count { length array.units.items ≤ MAX_UNITS }
-    requires disks { AreOver (λ new. B.OnDisk.disk new.unit.device) N.disk array.units.items }
-    requires prepared { AreOver P.disk N.disk array.preparers.items }
+    requires named { IsNamed N.book N.table N.opening B.contents units.items }
+    requires count { length units.items ≤ MAX_UNITS }
 {
-    let OpenArray {
-        units,
-        preparers,
-        locks,
-    } = array;
-    let gate = Prepared::<P, N>::new(preparers);
-    let ended = match serve_units::<N, B, F, O, Prepared<P, N>, R>(
-        rt, alloc, options, units, gate, log, pane,
-    ) {
+    match serve_units::<N, B, F, O, G, R>(rt, alloc, options, units, gate, log, sockets) {
         Ok(server) => {
             log.tell(rt, &Event::Ready);
             let mut operated = Operated {
@@ -308,6 +266,62 @@ pub fn serve<
             tell_want(rt, log, fault);
             Err(fault)
         }
+    }
+}
+
+/// Serves an array whose files are open, at the portals that the words ask for, until its console has no more lines for it or says
+/// `quit`. Behind it the last lines of the log are written, and only then another server may have the files. The names of the
+/// units and of their disks are picked where it is called: the preparer at each place is of the file that the unit there is over.
+pub fn serve<
+    N: Naming<Opened> + Disks + Send + Sync + 'static,
+    B: Blocks + OnDisk + Send + Sync + 'static,
+    F: Blocks + Send + Sync + 'static,
+    O: Opener<B> + Send + Sync + 'static,
+    P: Preparer + Send + Sync + 'static,
+    R: Threads
+        + Wait
+        + Clock
+        + Files<File = File>
+        + Net<Listener = TcpListener, Stream = TcpStream>
+        + RandomSource
+        + Clone
+        + Drop
+        + Send
+        + Sync
+        + 'static,
+    I: BufRead + Drop,
+    C: Write,
+>(
+    rt: &R,
+    alloc: Global,
+    options: &Options<'_>,
+    array: OpenArray<B, F, O, P>,
+    log: &Log,
+    administration: Option<Administration<'_>>,
+    reader: I,
+    writer: &mut C,
+) -> Result<(), Fault>
+    requires named { IsNamed N.book N.table N.opening B.contents array.units.items }
+    requires count { length array.units.items ≤ MAX_UNITS }
+    requires disks { AreOver (λ new. B.OnDisk.disk new.unit.device) N.disk array.units.items }
+    requires prepared { AreOver P.disk N.disk array.preparers.items }
+{
+    let OpenArray {
+        units,
+        preparers,
+        locks,
+    } = array;
+    let gate = Prepared::<P, N>::new(preparers);
+    let path = control_path(&administration);
+    let ended = match open(rt, administration) {
+        Ok(sockets) => {
+            let ended = serve_to_the_end::<N, B, F, O, Prepared<P, N>, R, I, C>(
+                rt, alloc, options, units, gate, log, sockets, reader, writer,
+            );
+            control::remove(rt, path);
+            ended
+        }
+        Err(fault) => Err(fault),
     };
     event_log::close(rt, log);
     // They live as long as the array is served.

@@ -2,8 +2,9 @@
 ghost use Rattle.std.specs.Prelude.{◌≡◌, ◌<◌, ◌≤◌, IfOk, length, map};
 ghost use Rattle.unit_state.specs.Serials.{IsOpening};
 
+use crate::administration::Administration;
 use crate::disks::{OpenArray, fault_of, open_blocks, open_preparer, open_record};
-use crate::served::{Pane, serve, tell_want};
+use crate::served::{serve, tell_want};
 use aptpl_file::RegFile;
 use block_file::{Blocks, KeepOpener, Opener};
 use command_line::{Fault, MAX_UNITS, Options};
@@ -239,6 +240,7 @@ pub fn serve_timed<
     R: Threads
         + Wait
         + Clock
+        + Files<File = File>
         + Net<Listener = TcpListener, Stream = TcpStream>
         + RandomSource
         + Clone
@@ -259,7 +261,7 @@ pub fn serve_timed<
     parts: Vec<Parts<B, F, O, P>>,
     patience: Duration,
     log: &Log,
-    pane: Option<Pane>,
+    administration: Option<Administration<'_>>,
     reader: I,
     writer: &mut C,
 ) -> Result<(), Fault> {
@@ -280,5 +282,14 @@ pub fn serve_timed<
         R,
         I,
         C,
-    >(rt, alloc, options, array, log, pane, reader, writer)
+    >(
+        rt,
+        alloc,
+        options,
+        array,
+        log,
+        administration,
+        reader,
+        writer,
+    )
 }

@@ -1,14 +1,15 @@
 //! A unit at a place that is known when it runs.
-ghost use Rattle.std.specs.Prelude.{◌≡◌, ◌&&◌, IfOk, IfErr, MatchBool, List};
+ghost use Rattle.std.specs.Prelude.{◌≡◌, ◌&&◌, IfOk, IfErr, IfSome, MatchBool, List};
 ghost use Rattle.registrants.specs.Nexus.{through};
 ghost use Rattle.unit_history.specs.Calls.{HasAttached, HasNoRoom, HasServed, HasRefused, HasReset, WasGone, HasRetired};
-ghost use Rattle.unit_history.specs.Calls.{HasFlushed, HasMoved, HasStayed, HasWorked};
+ghost use Rattle.unit_history.specs.Calls.{HasFlushed, HasMoved, HasStayed, HasWorked, IsRegistry};
 ghost use Rattle.unit_entries.specs.Devices.{devices};
 ghost use Rattle.array_units.specs.Places.{place_of};
 ghost use Rattle.array_units.specs.Rows.{IsRead};
 
 use access_states::Change;
 use block_file::{Blocks, DeviceFailed, Opener};
+use reservations::Registry;
 use scsi_types::{Asked, Group, PortName, Reply};
 use status::Row;
 use std::alloc::Global;
@@ -145,6 +146,13 @@ impl<B: Blocks, F: Blocks, O: Opener<B>, N: Array<Opened>> AnyUnit<B, F, O, N> {
             HasStayed (devices B.Blocks F.Blocks O.Opener) (N.opening (place_of self.now)) list.now result.0.1 why) }
     {
         each!(self, seated, seated.unit.move_to(rt, list))
+    }
+
+    /// Another value of its registry, as [`SharedUnit::registry`].
+    pub(crate) fn registry(&self) -> Option<Registry>
+        ensures { IfSome result (IsRegistry (O.claims && B.claims) (N.opening (place_of self.now))) }
+    {
+        each!(self, seated, seated.unit.registry())
     }
 
     /// Makes what was written last, as [`SharedUnit::flush`].

@@ -1,8 +1,8 @@
 //! The units of an array.
-ghost use Rattle.std.specs.Prelude.{◌≡◌, ◌+◌, ◌<◌, ◌≤◌, ◌&&◌, length, IfOk, IfErr, OnOk, MatchBool};
+ghost use Rattle.std.specs.Prelude.{◌≡◌, ◌+◌, ◌<◌, ◌≤◌, ◌&&◌, length, IfOk, IfErr, IfSome, OnOk, MatchBool};
 ghost use Rattle.registrants.specs.Nexus.{through};
 ghost use Rattle.unit_history.specs.Calls.{HasAttached, HasNoRoom, HasServed, HasRefused, HasReset, WasGone, HasRetired};
-ghost use Rattle.unit_history.specs.Calls.{HasFlushed, HasMoved, HasStayed, HasWorked};
+ghost use Rattle.unit_history.specs.Calls.{HasFlushed, HasMoved, HasStayed, HasWorked, IsRegistry};
 ghost use Rattle.unit_entries.specs.Devices.{devices};
 ghost use Rattle.unit_history.specs.Naming.{IsNamed, IsNamedAt};
 ghost use Rattle.array_units.specs.Places.{AreInOrder, place_of};
@@ -12,6 +12,7 @@ use crate::any_unit::{AnyUnit, Seated};
 use access_states::Change;
 use block_file::{Blocks, DeviceFailed, Opener};
 use crossbeam_utils::CachePadded;
+use reservations::Registry;
 use scsi_types::{Asked, Group, NoMemory, PortName, Reply};
 use status::Row;
 use std::alloc::Global;
@@ -227,6 +228,14 @@ impl<B: Blocks, F: Blocks, O: Opener<B>, N: Array<Opened>> Units<B, F, O, N> {
             HasStayed (devices B.Blocks F.Blocks O.Opener) (N.opening place) list.now result.0.1 why) }
     {
         self.at(place).move_to(rt, list)
+    }
+
+    /// Another value of the registry of the unit at a place, as [`unit_history::SharedUnit::registry`].
+    pub fn registry(&self, place: usize) -> Option<Registry>
+        requires { place < self.now }
+        ensures { IfSome result (IsRegistry (O.claims && B.claims) (N.opening place)) }
+    {
+        self.at(place).registry()
     }
 
     /// Makes what was written to the unit at a place last, as [`unit_history::SharedUnit::flush`].

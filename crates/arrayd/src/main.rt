@@ -5,12 +5,13 @@ ghost use Rattle.std.specs.Prelude.{◌≡◌};
 ghost use Rattle.std.specs.Process.{exit_status};
 ghost use Rattle.command_line.specs.Fault.{status_of};
 
+mod administration;
 mod log_file;
 mod once;
-mod pane;
 mod settings;
 mod told;
 
+use administration::Asked;
 use array::{open, open_files, serve, serve_timed, tell_want};
 use command_line::Fault;
 use disk_files::{FileBlocks, FileOpener, FilePreparer, NamedBlocks, SystemFile};
@@ -20,7 +21,6 @@ use std::alloc::Global;
 use std::env::Env;
 use std::fs::File;
 use std::marker::Brand;
-use std::net::SocketAddrV4;
 use std::process::ExitCode;
 use std::rt::Files;
 use std::time::Clock;
@@ -46,15 +46,15 @@ fn asked_log<R: Env + AllocGlobal + Files<File = File> + Clone + Drop>(
     }
 }
 
-// The log, its file, and where the window is to be, where one is.
+// The log, its file, and what the array is to be administered by.
 fn asked<R: Env + AllocGlobal + Files<File = File> + Clone + Drop>(
     rt: &R,
     alloc: Global,
     units: usize,
-) -> Result<(Log, Option<LogFile<R>>, Option<SocketAddrV4>), Fault> {
-    let at = pane::asked(rt)?;
+) -> Result<(Log, Option<LogFile<R>>, Asked), Fault> {
+    let asked = administration::asked(rt)?;
     let (log, file) = asked_log(rt, alloc)?;
-    Ok((pane::counted(alloc, log, at, units)?, file, at))
+    Ok((asked.counted(alloc, log, units)?, file, asked))
 }
 
 // Says why the program ends, and with which status.
@@ -102,7 +102,7 @@ fn main(rt: HostRuntime) -> ExitCode {
         Ok(address) => address,
         Err(fault) => return complain(&rt, fault),
     };
-    let (log, file, at) = match asked(&rt, alloc, options.paths.len()) {
+    let (log, file, asked) = match asked(&rt, alloc, options.paths.len()) {
         Ok(asked) => asked,
         Err(fault) => return complain(&rt, fault),
     };
@@ -116,8 +116,8 @@ fn main(rt: HostRuntime) -> ExitCode {
         }
         log.tell(&rt, &Event::Started(told::VERSION.as_bytes()));
     }
-    let pane = match pane::opened(&rt, &log, at) {
-        Ok(pane) => pane,
+    let administration = match asked.opened(&rt, &log) {
+        Ok(administration) => administration,
         Err(fault) => return give_up(&rt, &log, fault),
     };
     if let Some(patience) = patience {
@@ -133,7 +133,7 @@ fn main(rt: HostRuntime) -> ExitCode {
             parts,
             patience,
             &log,
-            pane,
+            administration,
             reader,
             &mut writer,
         );
@@ -161,7 +161,7 @@ fn main(rt: HostRuntime) -> ExitCode {
         &options,
         array,
         &log,
-        pane,
+        administration,
         rt.reader(),
         &mut io::writer(&rt),
     );

@@ -14,8 +14,8 @@ const SECOND_HOST: &str = "ARRAYD_HOST2";
 /// The most seconds.
 const LONGEST: u64 = 3600;
 
-// The value of a variable; none where it is not there, or empty.
-fn value_of<R: Env + AllocGlobal>(rt: &R, name: &str) -> Result<Option<String>, Fault> {
+/// The value of a variable; none where it is not there, or empty.
+pub(crate) fn value_of<R: Env + AllocGlobal>(rt: &R, name: &str) -> Result<Option<String>, Fault> {
     match env::var(rt, name) {
         Ok(value) if value.is_empty() => Ok(None),
         Ok(value) => Ok(Some(value)),

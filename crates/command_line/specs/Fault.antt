@@ -2,7 +2,7 @@
 use Rattle.std.specs.Prelude.{ℕ}
 use Rattle.command_line.specs.declared.fault.Fault.{Fault}
 use Rattle.command_line.specs.declared.fault.Fault.TheVariants.{WrongWords, CannotUseUnit, CannotUseRegistrationFile}
-use Rattle.command_line.specs.declared.fault.Fault.TheVariants.{CannotListen, CannotListenAt, NoMemory}
+use Rattle.command_line.specs.declared.fault.Fault.TheVariants.{CannotListen, CannotListenAt, CannotControl, NoMemory}
 
 abbrev pub status_of : Fault → ℕ
 status_of WrongWords = 2
@@ -10,4 +10,5 @@ status_of (CannotUseUnit unit) = 1
 status_of (CannotUseRegistrationFile unit) = 1
 status_of (CannotListen controller portal) = 1
 status_of (CannotListenAt at) = 1
+status_of CannotControl = 1
 status_of NoMemory = 1

@@ -26,6 +26,8 @@ pub enum Fault {
     CannotListen(u8, u16),
     /// The window can't listen at this address.
     CannotListenAt(SocketAddrV4),
+    /// The control socket can't be made.
+    CannotControl,
     /// Memory, or a thread, is refused.
     NoMemory,
 }
@@ -57,6 +59,7 @@ impl Display for Fault {
                 )
             }
             Fault::CannotListenAt(at) => write!(f, "cannot listen at {at}"),
+            Fault::CannotControl => write!(f, "cannot make the control socket"),
             Fault::NoMemory => write!(f, "no memory"),
         }
     }

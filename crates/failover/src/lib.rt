@@ -1,10 +1,12 @@
 //! Moves of an array's units between its controllers, without a session that asks for them.
 #![tactic(auto)]
 
-ghost use Rattle.std.specs.Prelude.{◌≡◌, ◌<◌, [], IfOk, IfErr};
+ghost use Rattle.std.specs.Prelude.{◌≡◌, ◌<◌, [], length, IfOk, IfErr};
 ghost use Rattle.unit_history.specs.Calls.{HasMoved, HasStayed};
 ghost use Rattle.unit_entries.specs.Devices.{devices};
 ghost use Rattle.failover.specs.Down.{AreDown, IsStopped, down_list};
+ghost use Rattle.failover.specs.Up.{AreUp, IsStoppedUp, up_list};
+ghost use Rattle.unit_control.specs.State.{preferred};
 
 mod mover;
 
@@ -35,6 +37,28 @@ fn down_list(controller: Group) -> GroupsList
     match controller {
         Group::One => [0, 0, 0, 0, 0, 0, 0, 2, 3, 0, 0, 1],
         Group::Two => [0, 0, 0, 0, 0, 0, 0, 1, 3, 0, 0, 2],
+    }
+}
+
+/// The group that the unit at a place prefers: the units of even number prefer the first (SPC-4, 5.15.2.1).
+pub fn preferred(place: usize) -> Group
+    ensures { result ≡ preferred place }
+{
+    if place % 2 == 0 {
+        Group::One
+    } else {
+        Group::Two
+    }
+}
+
+/// The parameter list by which a unit that prefers this group is as it opens (SPC-4, 6.45): that group becomes active/optimized,
+/// and the other active/non-optimized.
+fn up_list(preferred: Group) -> GroupsList
+    ensures { result ≡ up_list preferred }
+{
+    match preferred {
+        Group::One => [0, 0, 0, 0, 0, 0, 0, 1, 1, 0, 0, 2],
+        Group::Two => [0, 0, 0, 0, 0, 0, 0, 2, 1, 0, 0, 1],
     }
 }
 
@@ -74,6 +98,26 @@ pub fn take_down<W: Wait, M: Moves>(
     for place in 0..units.count() {
         if let Err(why) = units.move_to(rt, place, &list) {
             return Err(NotMoved { unit: place, why });
+        }
+    }
+    Ok(())
+}
+
+/// Makes each unit that is chosen as it opens: the group that it prefers becomes active/optimized, the other active/non-optimized.
+/// It stops at the first unit that does not move; those before it stay moved. Nothing else is moved, as the moves that are kept
+/// show.
+pub fn bring_up<W: Wait, M: Moves>(rt: &W, units: &mut M, chosen: &[bool]) -> Result<(), NotMoved>
+    requires fresh { M.moved units.old ≡ [] }
+    requires count { length chosen.now ≡ M.units units.old }
+    ensures up { IfOk result (λ done. AreUp M.made chosen.now (M.moved units.new)) }
+    ensures stopped { IfErr result (λ end. IsStoppedUp M.made end.unit end.why (M.moved units.new)) }
+{
+    for (place, is_chosen) in chosen.iter().enumerate() {
+        if *is_chosen {
+            let list = up_list(preferred(place));
+            if let Err(why) = units.move_to(rt, place, &list) {
+                return Err(NotMoved { unit: place, why });
+            }
         }
     }
     Ok(())

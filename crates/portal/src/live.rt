@@ -95,6 +95,15 @@ fn shut_older<C: Connection>(live: &[LiveSession<C>], new: &LiveSession<C>) {
     }
 }
 
+// Ends the connection of the session with this TSIH.
+fn shut_one<C: Connection>(live: &[LiveSession<C>], tsih: u16) {
+    for session in live {
+        if session.tsih == tsih {
+            session.connection.shut();
+        }
+    }
+}
+
 // Puts a new session in the place of the one that its nexus had of its kind. Takes no memory.
 fn replace<C: Drop>(live: &mut Vec<LiveSession<C>>, new: LiveSession<C>)
     requires { length live.old.items < vec_capacity live.old }
@@ -184,6 +193,17 @@ impl<C> Table<C> {
         ensures { result ≡ is_live self.now.live tsih (record { name = name.now; isid = isid }) }
     {
         self.live.iter().any(|session| session.tsih == tsih && is_of_port(session, name, isid))
+    }
+
+    /// Ends the connection of the session with this TSIH, where one lives: whether one does. It lives until its worker has seen
+    /// the end.
+    pub fn shut(&self, tsih: u16) -> bool
+    where
+        C: Connection,
+        ensures { result ≡ list_any (λ s. nat_eq s.tsih tsih) self.now.live }
+    {
+        shut_one(&self.live, tsih);
+        self.live.iter().any(|session| session.tsih == tsih)
     }
 
     /// Whether the session with this number lives.

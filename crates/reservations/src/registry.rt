@@ -8,7 +8,9 @@ ghost use Rattle.registrants.specs.Registry.{IsSound, empty, powered_on, reserve
 ghost use Rattle.reservations.specs.Table.{IsAnswer, effect_of};
 
 use crate::table::{MOST_REGISTRANTS, Table};
-use crate::{Access, Lasting, Nexus, PrEnd, PrOut, Record, ReservationType, Telling};
+use crate::{
+    Access, Lasting, Nexus, PrEnd, PrOut, Record, Registrant, Reservation, ReservationType, Telling,
+};
 use registrants::{are_listed, copy_registrants, copy_reservation, set_registrants};
 use scsi_types::{Group, NoMemory, PortName, UnitAttention};
 use std::alloc::Global;
@@ -153,6 +155,20 @@ impl Registry {
         ensures sound { IsSound self.now.registrants self.now.reservation }
     {
         self.table.registrants.len()
+    }
+
+    /// The registrants, in the order of their nexuses.
+    pub fn registrants(&self) -> &[Registrant]
+        ensures { result.now ≡ self.now.registrants }
+    {
+        &self.table.registrants
+    }
+
+    /// The reservation, if there is one.
+    pub fn held(&self) -> &Option<Reservation>
+        ensures { result.now ≡ self.now.reservation }
+    {
+        &self.table.reservation
     }
 
     /// PRGENERATION.

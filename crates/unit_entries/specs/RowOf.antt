@@ -1,8 +1,8 @@
 -- What the board shows of a history.
-use Rattle.std.specs.Prelude.{List, length}
+use Rattle.std.specs.Prelude.{◌≡◌, List, length}
 use Rattle.access_states.specs.AccessMap.{owner_of}
 use Rattle.access_states.specs.State.{state_code}
-use Rattle.registrants.specs.Registry.{reserved_type}
+use Rattle.registrants.specs.Registry.{RegistryValue, reserved_type}
 use Rattle.scsi_types.specs.Nexus.{group_number}
 use Rattle.status.specs.declared.row.Row.{Row}
 use Rattle.unit_control.specs.State.{ControlValue, UnitState}
@@ -26,3 +26,7 @@ row_of c =
 -- the row of the state behind a history
 abbrev pub row_behind : UnitState → List Entry → Row
 row_behind s history = row_of (state_after s history).control
+
+-- this is the registry of the state behind a history
+abbrev pub IsRegistryBehind : UnitState → List Entry → RegistryValue → Type 0
+IsRegistryBehind s history registry = registry ≡ (state_after s history).control.registry

@@ -5,6 +5,7 @@ ghost use Rattle.unit_entries.specs.RowOf.{row_of};
 use crate::entry::{Arrival, Noted, Opened};
 use access_states::Change;
 use block_file::{Blocks, DeviceFailed, Opener};
+use reservations::Registry;
 use scsi_types::{Asked, Group, Reply};
 use status::{Published, Row};
 use std::alloc::Global;
@@ -62,6 +63,7 @@ impl<B: Blocks, F: Blocks, O: Opener<B>> Machine<Noted, Opened> for Unit<B, F, O
     ghost use Rattle.unit_state.specs.Step.{entry_of};
     ghost use Rattle.unit_entries.specs.Devices.{devices, HaveFlushed, HaveMoved, HaveWorked};
     ghost use Rattle.unit_entries.specs.Histories.{IsBehind, IsCommand, IsToldBehind};
+    ghost use Rattle.unit_entries.specs.RowOf.{IsRegistryBehind};
     ghost use Rattle.unit_entries.specs.Causes.{IsFull, IsGone, IsAbsent, IsOwner, WantsMemory, IsStay, IsMoveTold};
 
     type Name = Arrival;
@@ -77,6 +79,8 @@ impl<B: Blocks, F: Blocks, O: Opener<B>> Machine<Noted, Opened> for Unit<B, F, O
     type Stays = MoveFault;
 
     type Fault = DeviceFailed;
+
+    type Registrations = Registry;
 
     ghost after = { IsBehind (O.claims && B.claims) B.contents B.failures O.opens_failed F.failures };
 
@@ -115,10 +119,16 @@ impl<B: Blocks, F: Blocks, O: Opener<B>> Machine<Noted, Opened> for Unit<B, F, O
 
     ghost handed_over = { HaveMoved (devices B.Blocks F.Blocks O.Opener) };
 
+    ghost registered = { IsRegistryBehind };
+
     ghost flushed = { HaveFlushed (devices B.Blocks F.Blocks O.Opener) };
 
     fn row(&self) -> Row {
         row_of(self)
+    }
+
+    fn registrations(&self) -> Option<Registry> {
+        self.registry().ok()
     }
 
     fn attach(&mut self, name: Arrival) -> Option<u64> {

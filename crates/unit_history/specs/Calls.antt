@@ -5,6 +5,7 @@ use Rattle.access_states.specs.declared.change.Change.{Change}
 use Rattle.block_file.specs.declared.blocks.DeviceFailed.{DeviceFailed}
 use Rattle.unit_lock.specs.Calls.{Known, IsAdded, IsBeside, IsBetween, IsEnded, IsRefused, IsCause}
 use Rattle.unit_lock.specs.declared.machine.Refused.{Refused}
+use Rattle.registrants.specs.Registry.{RegistryValue}
 use Rattle.scsi_types.specs.Nexus.{Nexus}
 use Rattle.scsi_types.specs.ReplyValue.{ReplyValue}
 use Rattle.scsi_types.specs.declared.names.Group.{Group}
@@ -17,7 +18,7 @@ use Rattle.unit_control.specs.Choice.{Fine}
 use Rattle.unit_control.specs.Entry.{Entry, Attach, Detach, Reset, Move}
 use Rattle.unit_entries.specs.Devices.{Devices, claims_of, HaveFlushed, HaveMoved, HaveWorked}
 use Rattle.unit_entries.specs.Histories.{IsBehind, IsHistory, IsCommand, IsToldBehind, own}
-use Rattle.unit_entries.specs.RowOf.{row_behind}
+use Rattle.unit_entries.specs.RowOf.{IsRegistryBehind, row_behind}
 use Rattle.unit_entries.specs.Causes.{IsAbsent, IsFull, IsGone, IsMoveTold, IsOwner, IsStay, WantsMemory}
 
 -- A session attached: its pass has seen a legal history that ends with its Attach, whose place is the session's number.
@@ -114,3 +115,7 @@ pub record IsShown (claims : Bool) (s : UnitState) (row : Row) : Type 0 where
   pub history : List Entry
   pub legal : IsHistory claims s history
   pub row_is : row ≡ row_behind s history
+
+-- This is the registry of the unit that a legal history left.
+abbrev pub IsRegistry : Bool → UnitState → RegistryValue → Type 0
+IsRegistry claims s registry = (history : List Entry) × IsHistory claims s history × IsRegistryBehind s history registry

@@ -1,14 +1,15 @@
 //! One unit that threads share.
-ghost use Rattle.std.specs.Prelude.{◌≡◌, ◌≤◌, ◌&&◌, [], length, IfOk, IfErr, MatchBool, All, List};
+ghost use Rattle.std.specs.Prelude.{◌≡◌, ◌≤◌, ◌&&◌, [], length, IfOk, IfErr, IfSome, MatchBool, All, List};
 ghost use Rattle.registrants.specs.Nexus.{through};
 ghost use Rattle.unit_history.specs.Calls.{HasAttached, HasNoRoom, HasServed, HasRefused, HasReset, WasGone, HasRetired};
-ghost use Rattle.unit_history.specs.Calls.{HasFlushed, HasMoved, HasStayed, HasWorked, HaveMet};
+ghost use Rattle.unit_history.specs.Calls.{HasFlushed, HasMoved, HasStayed, HasWorked, HaveMet, IsRegistry};
 ghost use Rattle.unit_entries.specs.Devices.{devices};
 ghost use Rattle.unit_history.specs.Naming.{IsNamedAt};
 
 use crate::new_unit::NewUnit;
 use access_states::Change;
 use block_file::{Blocks, DeviceFailed, Opener};
+use reservations::Registry;
 use scsi_types::{Asked, Group, NoMemory, PortName, Reply};
 use status::{Board as StatusBoard, MOST_SEATS, Seat as BoardSeat};
 use std::alloc::Global;
@@ -171,6 +172,14 @@ impl<B: Blocks, F: Blocks, O: Opener<B>, N: Array<Opened>, const U: usize> Share
         ensures met { HaveMet (O.claims && B.claims) (N.opening U) one.pass two.pass result.0.pass result.1.pass }
     {
         self.unit.meet(one, two)
+    }
+
+    /// Another value of the unit's registry, which a legal history left. None: a command has the unit for long, or there was no
+    /// memory. It is no entry, and waits for nobody.
+    pub fn registry(&self) -> Option<Registry>
+        ensures { IfSome result (IsRegistry (O.claims && B.claims) (N.opening U)) }
+    {
+        self.unit.registrations()
     }
 
     /// Makes what was written last: after a success there was a legal history behind which a crash left the blocks that the

@@ -1,5 +1,5 @@
 //! The unit under its lock.
-ghost use Rattle.std.specs.Prelude.{◌≡◌, ◌+◌, ◌++◌, ◌∷◌, [], length, IfOk, IfErr, MatchBool, List, Some};
+ghost use Rattle.std.specs.Prelude.{◌≡◌, ◌+◌, ◌++◌, ◌∷◌, [], length, IfOk, IfErr, IfSome, MatchBool, List, Some};
 ghost use Rattle.unit_lock.specs.Calls.{IsAdded, IsBeside, IsBetween, IsEnded, IsRefused, IsCause};
 
 use crate::machine::{Machine, Refused};
@@ -328,6 +328,13 @@ impl<E, S, X: Machine<E, S>, N: Array<S>, const U: usize> Locked<E, S, X, N, U> 
             }
             Err(why) => (Records::history_in(&self.records), Err(why)),
         }
+    }
+
+    /// Another value of its registrations. It is no entry.
+    pub(crate) fn registrations(&self) -> Option<X::Registrations>
+        ensures { IfSome result (λ found. (h : List E) × X.legal (N.opening U) h × X.registered (N.opening U) h found) }
+    {
+        self.object.registrations()
     }
 
     /// Makes what was written last. It is no entry.

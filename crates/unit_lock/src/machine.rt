@@ -42,6 +42,9 @@ pub trait Machine<E, S>: Published<E, S> + Drop {
     /// Why it does not flush.
     type Fault: Drop;
 
+    /// Who is registered, and what is reserved.
+    type Registrations: Drop;
+
     // This is what the history leaves, and what the devices counted bears it out.
     ghost after: { S → List E → Self → Type 0 };
 
@@ -96,9 +99,16 @@ pub trait Machine<E, S>: Published<E, S> + Drop {
     // What became of them in a flush with this end.
     ghost flushed: { Self → Self → Result (Unit {0}) Self.Fault → Type 0 };
 
+    // These are the registrations behind this history.
+    ghost registered: { S → List E → Self.Registrations → Type 0 };
+
     /// The row of its history.
     fn row(&self) -> Row
         ensures { (s : S) (h : List E) → Self.legal s h → after s h self.now → result ≡ Self.rows s h };
+
+    /// Another value of its registrations. None: there was no memory for it.
+    fn registrations(&self) -> Option<Self::Registrations>
+        ensures { IfSome result (λ found. (s : S) (h : List E) → Self.legal s h → after s h self.now → registered s h found) };
 
     /// Attaches a session.
     fn attach(&mut self, name: Self::Name) -> Option<u64>

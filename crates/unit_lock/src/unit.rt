@@ -1,5 +1,5 @@
 //! One unit, which all threads share.
-ghost use Rattle.std.specs.Prelude.{◌≡◌, ◌≤◌, ◌+◌, ◌++◌, ◌∷◌, [], length, IfOk, IfErr, MatchBool, List, All};
+ghost use Rattle.std.specs.Prelude.{◌≡◌, ◌≤◌, ◌+◌, ◌++◌, ◌∷◌, [], length, IfOk, IfErr, IfSome, MatchBool, List, All};
 ghost use mathlib.Core.List.{IsPrefix};
 ghost use Rattle.unit_lock.specs.Calls.{IsAdded, IsBeside, IsBetween, IsEnded, IsRefused, IsCause};
 
@@ -50,6 +50,9 @@ impl<E, S, X: Machine<E, S> + Drop, N: Array<S>, const U: usize> Drop
 /// How often a thread looks for the lock before it sleeps: after a longer pause each time, then each time that others could
 /// run. A command is shorter than a sleep with its wake, unless its device is slow.
 const LOOKS: usize = 64;
+
+/// How often one looks for it that waits for nobody.
+const TRIES: usize = 1000;
 
 impl<E, S, X: Machine<E, S>, N: Array<S>, const U: usize> LockedUnit<E, S, X, N, U> {
     /// A unit of which nothing was asked yet, and so many readers' seats at its board.
@@ -211,6 +214,21 @@ impl<E, S, X: Machine<E, S>, N: Array<S>, const U: usize> LockedUnit<E, S, X, N,
     {
         let (one, two) = meet(one.at::<U>(), two.at::<U>());
         (Pass::of::<U>(one), Pass::of::<U>(two))
+    }
+
+    /// Another value of the registrations that some legal history led to. It is no entry. None: another thread has the lock for
+    /// long, or there was no memory. It waits for nobody.
+    pub fn registrations(&self) -> Option<X::Registrations>
+        ensures { IfSome result (λ found. (h : List E) × X.legal (N.opening U) h × X.registered (N.opening U) h found) }
+    {
+        let backoff = Backoff::new();
+        for _ in 0..TRIES {
+            if let Some(guard) = self.locked.try_lock() {
+                return guard.registrations();
+            }
+            backoff.snooze();
+        }
+        None
     }
 
     /// Makes what was written last, of the unit that some legal history led to. It is no entry.

@@ -117,6 +117,13 @@ impl<B: Blocks, F: Blocks, O: Opener<B>> Unit<B, F, O> {
         })
     }
 
+    /// Another value of its registry.
+    pub fn registry(&self) -> Result<Registry, NoMemory>
+        ensures { IfOk result (λ registry. registry ≡ self.now.control.registry) }
+    {
+        self.control.registry().copy()
+    }
+
     /// Attaches a session of this nexus, and ends one that it had. Takes no memory.
     pub fn attach(&mut self, port: PortName, group: Group) -> Result<SessionId, AttachFault>
         ensures room { IsErr result ↔ (HasRoom self.old.control (record { port = port; group = group }) → ⊥) }

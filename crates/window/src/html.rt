@@ -57,6 +57,8 @@ button:focus-visible { outline: 3px solid var(--one); }
 <h2>Units</h2><div class='wide' tabindex='0' aria-label='Units'><table id='unit_table'></table></div>
 <h2>Sessions <span id='session_count' class='soft'></span></h2>
 <div class='wide' tabindex='0' aria-label='Sessions'><table id='session_table'></table></div>
+<h2>Registrations <span id='registration_count' class='soft'></span></h2>
+<div class='wide' tabindex='0' aria-label='Registrations'><table id='registration_table'></table></div>
 <h2>Controllers and logins</h2><div class='wide' tabindex='0' aria-label='Controllers'><table id='controller_table'></table></div>
 </main>
 <script>
@@ -196,6 +198,14 @@ function unitRow(unit) {
     miscompares: sum(all.map(c => c.sense_keys[14])), checks: sum(all.flatMap(c => c.sense_keys)),
     failed: sum(unit.disk_failures.concat(unit.registration_failures).map(tally => tally.count)) };
 }
+// The registrations of all units, and the units of which they are not to be read now.
+function registrationsOf(view) {
+  const rows = view.units.flatMap(unit => (unit.registrations ?? []).map(one => ({ unit: unit.unit, initiator: one.initiator,
+    isid: one.isid, by: 'controller ' + one.controller, key: one.key,
+    holds: one.is_holder ? TYPES[one.reservation_type] ?? one.reservation_type : '' })));
+  const unread = view.units.filter(unit => unit.registrations === null).map(unit => unit.unit);
+  return [rows, unread.length ? ', not to be read now: unit ' + unread.join(', ') : ''];
+}
 function show(view) {
   remember(view);
   document.body.classList.remove('stale');
@@ -216,6 +226,10 @@ function show(view) {
     ['peer', 'peer'], ['type', 'kind'], ['since', 'begun'], ['last command', 'last'], ['commands', 'commands']],
     view.sessions.map(session => ({ ...session, begun: new Date(session.since * 1000).toISOString().slice(0, 19).replace('T', ' '),
     last: session.last_command ? session.last_command + ', ' + ago(session.idle_micros / 1e6) : 'none' })));
+  const [registrations, unread] = registrationsOf(view);
+  fill('registration_count', '(' + registrations.length + unread + ')');
+  table('registration_table', [['unit', 'unit'], ['initiator', 'initiator'], ['ISID', 'isid'], ['by', 'by'], ['key', 'key'],
+    ['holds', 'holds']], registrations);
   table('controller_table', [['controller', 'controller'], ['portals', 'at'], ['sessions', 'sessions'], ['logins', 'logins'],
     ['refused', 'refused']], view.controllers.map((one, place) => ({ ...one, controller: 'controller ' + one.controller,
     at: one.portals.join(' '),

@@ -3,23 +3,25 @@
 #![tactic(auto)]
 
 mod answer;
-mod clerk;
+mod exposition;
+mod handler;
 mod html;
 pub mod laws;
 mod line;
 mod made;
-mod measures;
 mod serving;
-mod tables;
 mod troubles;
+mod unit_metrics;
 mod view;
 
 pub use answer::{Wanted, asked_for};
-pub use clerk::{Clerk, Sight};
+pub use exposition::metrics;
+pub use handler::{Collector, Handler};
 pub use html::PAGE;
 pub use line::{Amount, Label, put_help, put_sample, put_type};
 pub use made::{failures, refusals, route, session, spelled};
-pub use measures::metrics;
 pub use serving::open;
 pub use troubles::{Signs, Trouble, health, health_words, problems, trouble_tallies};
-pub use view::{Commands, Controller, Route, Session, Tally, Unit, View, state_words};
+pub use view::{
+    Commands, Controller, Registration, Route, Session, Tally, Unit, View, state_words,
+};

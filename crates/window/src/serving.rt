@@ -1,6 +1,6 @@
 //! The connections of a window, a thread each.
 
-use crate::clerk::{Clerk, Sight};
+use crate::handler::{Collector, Handler};
 use http_server::{Config, Connection};
 use http1::Limits;
 use std::alloc::Global;
@@ -51,18 +51,18 @@ fn left<R: Clock>(rt: &R, began: Duration, patience: u64) -> io::Result<Duration
 }
 
 // Answers a connection.
-fn answer<R: Clock + RandomSource, S: Sight>(
+fn answer<R: Clock + RandomSource, S: Collector>(
     rt: &R,
     alloc: Global,
-    sight: &S,
+    collector: &S,
     stream: &TcpStream,
     began: Duration,
 ) -> io::Result<()> {
     let mut connection = Connection::new(alloc, RandomState::new(rt)?, CONFIG);
-    let mut clerk = Clerk::new(alloc, sight);
+    let mut handler = Handler::new(alloc, collector);
     let mut stream = stream;
     for _ in 0..u64::MAX {
-        connection.advance(&mut clerk);
+        connection.advance(&mut handler);
         if connection.is_done() {
             break;
         }
@@ -96,45 +96,45 @@ fn finish<R: Clock>(rt: &R, stream: &TcpStream) -> io::Result<()> {
 }
 
 // Serves a connection.
-fn attend<R: Clock + RandomSource, S: Sight>(
+fn attend<R: Clock + RandomSource, S: Collector>(
     rt: &R,
     alloc: Global,
-    sight: &S,
+    collector: &S,
     stream: &TcpStream,
 ) -> io::Result<()> {
     let _ = stream.set_nodelay(true);
     let began = rt.monotonic()?;
-    answer(rt, alloc, sight, stream, began)?;
+    answer(rt, alloc, collector, stream, began)?;
     finish(rt, stream)
 }
 
 // Serves a connection, which is one less then.
-fn work<R: Clock + RandomSource, S: Sight>(
+fn work<R: Clock + RandomSource, S: Collector>(
     rt: &R,
     alloc: Global,
-    sight: &S,
+    collector: &S,
     busy: &AtomicU64,
     stream: &TcpStream,
 ) {
-    let _ = attend(rt, alloc, sight, stream);
+    let _ = attend(rt, alloc, collector, stream);
     let _ = busy.fetch_sub(1, Ordering::SeqCst);
 }
 
 // Starts the thread of a connection.
 fn start<
     R: Threads + Clock + RandomSource + Clone + Drop + Send + 'static,
-    S: Sight + Drop + Send + Sync + 'static,
+    S: Collector + Drop + Send + Sync + 'static,
 >(
     rt: &R,
     alloc: Global,
-    sight: &Arc<S, Global>,
+    collector: &Arc<S, Global>,
     busy: &Arc<AtomicU64, Global>,
     stream: TcpStream,
 ) -> io::Result<()> {
-    let sight = Arc::try_clone(sight)?;
+    let collector = Arc::try_clone(collector)?;
     let busy = Arc::try_clone(busy)?;
     let mine = rt.clone()?;
-    let work = move || work::<R, S>(&mine, alloc, &sight, &busy, &stream);
+    let work = move || work::<R, S>(&mine, alloc, &collector, &busy, &stream);
     let _thread: JoinHandle<()> = Builder::new().stack_size(STACK).spawn(rt, work)?;
     Ok(())
 }
@@ -142,12 +142,12 @@ fn start<
 // Accepts connections, a thread each, as long as there are not too many.
 fn accept<
     R: Threads + Clock + RandomSource + Clone + Drop + Send + 'static,
-    S: Sight + Drop + Send + Sync + 'static,
+    S: Collector + Drop + Send + Sync + 'static,
 >(
     rt: &R,
     alloc: Global,
     listener: &TcpListener,
-    sight: &Arc<S, Global>,
+    collector: &Arc<S, Global>,
     busy: &Arc<AtomicU64, Global>,
 ) {
     for stream in listener.incoming() {
@@ -156,21 +156,21 @@ fn accept<
             continue;
         };
         let is_too_many = busy.fetch_add(1, Ordering::SeqCst) >= CONNECTIONS;
-        if is_too_many || start(rt, alloc, sight, busy, stream).is_err() {
+        if is_too_many || start(rt, alloc, collector, busy, stream).is_err() {
             let _ = busy.fetch_sub(1, Ordering::SeqCst);
         }
     }
 }
 
-/// Starts to answer, by what this sees, the connections that come to a socket that listens.
+/// Starts to answer, by what this collects, the connections that come to a socket that listens.
 pub fn open<
     R: Threads + Clock + RandomSource + Clone + Drop + Send + 'static,
-    S: Sight + Drop + Send + Sync + 'static,
->(rt: &R, alloc: Global, listener: TcpListener, sight: S) -> io::Result<()> {
-    let sight = Arc::new(alloc, sight)?;
+    S: Collector + Drop + Send + Sync + 'static,
+>(rt: &R, alloc: Global, listener: TcpListener, collector: S) -> io::Result<()> {
+    let collector = Arc::new(alloc, collector)?;
     let busy = Arc::new(alloc, AtomicU64::new(0))?;
     let mine = rt.clone()?;
-    let work = move || accept::<R, S>(&mine, alloc, &listener, &sight, &busy);
+    let work = move || accept::<R, S>(&mine, alloc, &listener, &collector, &busy);
     let _thread: JoinHandle<()> = Builder::new().stack_size(STACK).spawn(rt, work)?;
     Ok(())
 }

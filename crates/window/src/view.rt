@@ -40,6 +40,21 @@ pub struct Route {
     pub commands: Commands,
 }
 
+/// A registration, as READ FULL STATUS tells it (SPC-4, 6.15.5).
+#[derive(Drop, Serialize)]
+pub struct Registration {
+    /// The InitiatorName, as the log spells names.
+    pub initiator: String,
+    /// The ISID and the reservation key, in hexadecimal.
+    pub isid: String,
+    pub key: String,
+    /// The group of the portals by which its nexus comes.
+    pub controller: u64,
+    pub is_holder: bool,
+    /// The type of the reservation that it holds (SPC-4, table 56), or 0.
+    pub reservation_type: u64,
+}
+
 /// A unit.
 #[derive(Drop, Serialize)]
 pub struct Unit {
@@ -51,6 +66,8 @@ pub struct Unit {
     pub registrants: u64,
     /// The type of its persistent reservation (SPC-4, table 56), or 0.
     pub reservation_type: u64,
+    /// Who they are. None: a command has the unit for long, or there was no memory for them.
+    pub registrations: Option<Vec<Registration>>,
     /// How many entries its history has.
     pub entries: u64,
     /// Its disk and its registration file, as the log spells names.

@@ -2,6 +2,7 @@
 
 mod bytes;
 pub mod files;
+mod order;
 mod records;
 mod refusals;
 mod saves;

@@ -1,6 +1,6 @@
 //! Flushes that end well, and ran beside one that failed: they may have had its blocks in hand.
 use crate::ends::must;
-use crate::units::files::flushes::{Flushed, NODE, both_are_told};
+use crate::units::files::flushes::{Flushed, NODE, both_end_so};
 use block_file::Blocks;
 use disk_files::{FileBlocks, Flushes};
 use std::alloc::Global;
@@ -8,8 +8,8 @@ use std::process::Abort;
 use std::sync::{Mutex, Wait};
 use std::thread::{Threads, join};
 
-// Handles, of which the first fails its first flush in a while. Each other flush ends well, in twice that time.
-fn handles(
+/// Handles, each of which fails one flush in a while, counted from 0, or none. Each other flush ends well, in twice that time.
+pub fn slow_handles(
     rt: &impl Abort,
     clock: HostRuntime,
     alloc: Global,
@@ -26,9 +26,10 @@ fn handles(
 // By two handles beside the device.
 #[test]
 fn a_flush_beside_one_that_failed_is_not_believed(rt: HostRuntime) {
-    both_are_told(
+    both_end_so(
         &rt,
-        &Flushes::new(handles(&rt, rt, rt.alloc(), &[Some(0), None])),
+        &Flushes::new(slow_handles(&rt, rt, rt.alloc(), &[Some(0), None])),
+        false,
     );
 }
 
@@ -36,7 +37,7 @@ fn a_flush_beside_one_that_failed_is_not_believed(rt: HostRuntime) {
 #[test]
 fn a_flush_of_the_device_beside_one_that_failed_is_not_believed(rt: HostRuntime) {
     let mut device = FileBlocks::of(Flushed::slow(rt, None)).expect(&rt, "a device");
-    let beside = device.share(rt.alloc(), handles(&rt, rt, rt.alloc(), &[Some(0)]));
+    let beside = device.share(rt.alloc(), slow_handles(&rt, rt, rt.alloc(), &[Some(0)]));
     neither_is_done(&rt, &mut device, &beside.expect(&rt, "memory"));
 }
 

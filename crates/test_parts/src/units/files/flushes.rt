@@ -2,6 +2,7 @@
 ghost use Rattle.std.specs.Prelude.{[], false, true, refl};
 
 use crate::ends::must;
+use crate::units::files::beside::slow_handles;
 use crate::units::files::runs::writes;
 use block_file::Blocks;
 use disk_files::{BackingFile, Counted, FileBlocks, FlushFault, Flushes, LastingFile};
@@ -254,15 +255,24 @@ fn each_flush_ends_so(rt: HostRuntime) {
 // One of two waits for the handle by which the other fails. The system would tell it nothing of that.
 #[test]
 fn who_waits_behind_a_flush_that_fails_is_told(rt: HostRuntime) {
-    let mut handles = Vec::new(rt.alloc());
-    handles
-        .push(Mutex::new(Flushed::slow(rt, Some(0))))
-        .expect(&rt, "memory");
-    both_are_told(&rt, &Flushes::new(handles));
+    let by_one = Flushes::new(slow_handles(&rt, rt, rt.alloc(), &[Some(0)]));
+    both_end_so(&rt, &by_one, false);
 }
 
-/// Of two flushes neither is done.
-pub fn both_are_told(rt: &(impl Threads + Wait + Abort + Sync), flushes: &Flushes<Flushed>) {
+// Where no flush fails, who waits for a handle is not told that one did.
+#[test]
+fn who_waits_behind_a_flush_that_is_done_is_done(rt: HostRuntime) {
+    let by_one = Flushes::new(slow_handles(&rt, rt, rt.alloc(), &[None]));
+    both_end_so(&rt, &by_one, true);
+}
+
+/// Two flushes at a time are done, or neither is.
+pub fn both_end_so(
+    rt: &(impl Threads + Wait + Abort + Sync),
+    flushes: &Flushes<Flushed>,
+    are_done: bool,
+) {
     let (one, other) = join(rt, || flushes.flush(rt, NODE), || flushes.flush(rt, NODE));
-    must(rt, one.is_err() && other.is_err(), "both are told", &());
+    let ends = [one.is_ok(), other.is_ok()];
+    must(rt, ends == [are_done, are_done], "two flushes", &ends);
 }

@@ -1,7 +1,7 @@
 //! What is measured, in lines.
 
 use crate::line::{Amount, Label, put_help, put_sample, put_type};
-use crate::tables::{Metric, OF_ROUTES, OF_UNITS, OfRoute, OfUnit};
+use crate::unit_metrics::{Metric, OF_ROUTES, OF_UNITS, OfRoute, OfUnit};
 use crate::view::{Commands, Route, Session, Tally, Unit, View};
 use std::alloc::{AllocError, Global};
 
@@ -17,9 +17,9 @@ const BLOCK: u64 = 512;
 /// The sense key of a COMPARE AND WRITE that found a difference (SPC-4, table 43).
 const MISCOMPARE: usize = 14;
 
-/// The text that is made.
+/// The text that is made, in the exposition format of Prometheus.
 #[derive(Drop)]
-struct Sheet {
+struct Exposition {
     text: String,
 }
 
@@ -76,7 +76,7 @@ fn measured_of_route(route: &Route, what: OfRoute) -> u64 {
     }
 }
 
-impl Sheet {
+impl Exposition {
     // A metric begins: its name, its type, and what it tells.
     fn metric(&mut self, name: &str, kind: &str, words: &str) -> Result<(), AllocError> {
         put_help(&mut self.text, name, words)?;
@@ -362,22 +362,22 @@ fn of_session(session: &Session) -> [Label<'_>; 5] {
 
 /// What is measured of an array, in lines.
 pub fn metrics(alloc: Global, view: &View) -> Result<String, AllocError> {
-    let mut sheet = Sheet {
+    let mut lines = Exposition {
         text: String::new(alloc),
     };
-    sheet.of_array(view)?;
-    sheet.of_logins(view)?;
+    lines.of_array(view)?;
+    lines.of_logins(view)?;
     for metric in &OF_UNITS {
-        sheet.of_units(&view.units, *metric)?;
+        lines.of_units(&view.units, *metric)?;
     }
-    sheet.of_files(&view.units)?;
-    sheet.of_troubles(&view.units)?;
+    lines.of_files(&view.units)?;
+    lines.of_troubles(&view.units)?;
     for metric in &OF_ROUTES {
-        sheet.of_routes(&view.units, *metric)?;
+        lines.of_routes(&view.units, *metric)?;
     }
-    sheet.of_operations(&view.units)?;
-    sheet.of_statuses(&view.units)?;
-    sheet.of_keys(&view.units)?;
-    sheet.of_times(&view.units)?;
-    Ok(sheet.text)
+    lines.of_operations(&view.units)?;
+    lines.of_statuses(&view.units)?;
+    lines.of_keys(&view.units)?;
+    lines.of_times(&view.units)?;
+    Ok(lines.text)
 }

@@ -1,5 +1,6 @@
-//! What is seen of the array from outside.
+//! What the window collects of the array.
 
+use crate::registrations::registrations;
 use array_units::Units;
 use block_file::{Blocks, Opener};
 use command_line::Options;
@@ -13,7 +14,7 @@ use std::sync::{Arc, Wait};
 use std::time::{Clock, Duration};
 use unit_history::Opened;
 use unit_sequence::Array as Naming;
-use window::{Controller, Session, Sight, Signs, Unit, View};
+use window::{Collector, Controller, Registration, Session, Signs, Unit, View};
 
 /// What the array was asked to be, as it is shown.
 #[derive(Drop)]
@@ -24,8 +25,8 @@ struct Asked {
     disks: Vec<String>,
 }
 
-/// Who sees the array while it is served.
-pub(crate) struct Lookout<
+/// What collects the state of the array while it is served.
+pub(crate) struct ArrayCollector<
     R: Wait + Clock + Drop,
     B: Blocks,
     F: Blocks,
@@ -42,7 +43,7 @@ pub(crate) struct Lookout<
 }
 
 impl<R: Wait + Clock + Drop, B: Blocks, F: Blocks, O: Opener<B>, N: Naming<Opened>, G: Drop> Drop
-    for Lookout<R, B, F, O, N, G> {
+    for ArrayCollector<R, B, F, O, N, G> {
     fn drop(self) {
         let Self {
             rt: _,
@@ -88,6 +89,7 @@ fn unit_of(
     alloc: Global,
     place: usize,
     row: Row,
+    registrations: Option<Vec<Registration>>,
     disks: &[String],
     seen: &Seen,
 ) -> Result<Unit, AllocError> {
@@ -110,6 +112,7 @@ fn unit_of(
         owner: row.owner,
         generation: row.generation,
         registrants: row.registrants,
+        registrations,
         reservation_type: row.kind,
         entries: row.entries,
         disk,
@@ -169,7 +172,8 @@ fn units_of<R: Wait, B: Blocks, F: Blocks, O: Opener<B>, N: Naming<Opened>>(
     let mut found = Vec::new(alloc);
     for place in 0..units.count() {
         let row = units.read(rt, place);
-        found.push(unit_of(alloc, place, row, disks, seen)?)?;
+        let registrations = registrations(alloc, units, place);
+        found.push(unit_of(alloc, place, row, registrations, disks, seen)?)?;
     }
     Ok(found)
 }
@@ -186,18 +190,18 @@ impl<
     O: Opener<B>,
     N: Naming<Opened>,
     G: Drop,
-> Lookout<R, B, F, O, N, G> {
-    /// Who sees what this serves, from now on.
+> ArrayCollector<R, B, F, O, N, G> {
+    /// What collects the state of what this serves.
     pub(crate) fn new(
         rt: R,
         alloc: Global,
         options: &Options<'_>,
         version: &'static str,
         server: Arc<Server<Controllers<B, F, O, N>, G>, Global>,
-    ) -> Result<Lookout<R, B, F, O, N, G>, AllocError> {
+    ) -> Result<ArrayCollector<R, B, F, O, N, G>, AllocError> {
         let since = rt.since_1970().unwrap_or(Duration::ZERO);
         let began = rt.monotonic().unwrap_or(Duration::ZERO);
-        Ok(Lookout {
+        Ok(ArrayCollector {
             rt,
             server,
             asked: asked_by(alloc, options, version)?,
@@ -215,9 +219,15 @@ impl<
     }
 }
 
-impl<R: Wait + Clock + Drop, B: Blocks, F: Blocks, O: Opener<B>, N: Naming<Opened>, G: Drop> Sight
-    for Lookout<R, B, F, O, N, G> {
-    fn look(&self, alloc: Global) -> Result<View, AllocError> {
+impl<
+    R: Wait + Clock + Drop,
+    B: Blocks,
+    F: Blocks,
+    O: Opener<B>,
+    N: Naming<Opened>,
+    G: Drop,
+> Collector for ArrayCollector<R, B, F, O, N, G> {
+    fn collect(&self, alloc: Global) -> Result<View, AllocError> {
         let now = self.rt.monotonic().unwrap_or(self.began);
         let seen = self.seen(alloc, now)?;
         let server = &self.server;

@@ -1,8 +1,8 @@
-//! Who answers the requests of a connection.
+//! What answers the requests of a connection.
 
 use crate::answer::{Wanted, asked_for};
+use crate::exposition::metrics;
 use crate::html::PAGE;
-use crate::measures::metrics;
 use crate::troubles::health;
 use crate::view::View;
 use bytes::{BufMut, Bytes};
@@ -10,17 +10,17 @@ use http::{HeaderValue, Request, StatusCode, header};
 use http_server::{Response, Service};
 use std::alloc::{AllocError, Global};
 
-/// What sees an array.
-pub trait Sight {
-    /// What it sees now.
-    fn look(&self, alloc: Global) -> Result<View, AllocError>;
+/// What collects the state of an array.
+pub trait Collector {
+    /// The state now.
+    fn collect(&self, alloc: Global) -> Result<View, AllocError>;
 }
 
-/// Answers requests by what is seen.
+/// Answers requests by what is collected.
 #[derive(Drop)]
-pub struct Clerk<'a, S: Sight> {
+pub struct Handler<'a, S: Collector> {
     alloc: Global,
-    sight: &'a S,
+    collector: &'a S,
 }
 
 // What kinds of texts there are.
@@ -60,23 +60,23 @@ fn status_text(alloc: Global, view: &View) -> Result<Vec<u8>, AllocError> {
     }
 }
 
-impl<'a, S: Sight> Clerk<'a, S> {
-    /// Who answers by what this sees.
-    pub fn new(alloc: Global, sight: &'a S) -> Clerk<'a, S> {
-        Clerk { alloc, sight }
+impl<'a, S: Collector> Handler<'a, S> {
+    /// Which answers by what this collects.
+    pub fn new(alloc: Global, collector: &'a S) -> Handler<'a, S> {
+        Handler { alloc, collector }
     }
 
-    // Answers what is asked of what is seen.
+    // Answers what is asked.
     fn tell(&self, wanted: Wanted, response: &mut Response) -> Result<(), AllocError> {
         let alloc = self.alloc;
         match wanted {
             Wanted::Metrics => {
-                let view = self.sight.look(alloc)?;
+                let view = self.collector.collect(alloc)?;
                 let text = metrics(alloc, &view)?;
                 fill(response, measured(), text.into_bytes())
             }
             Wanted::Status => {
-                let view = self.sight.look(alloc)?;
+                let view = self.collector.collect(alloc)?;
                 fill(
                     response,
                     HeaderValue::from_static("application/json"),
@@ -84,7 +84,7 @@ impl<'a, S: Sight> Clerk<'a, S> {
                 )
             }
             Wanted::Health => {
-                let view = self.sight.look(alloc)?;
+                let view = self.collector.collect(alloc)?;
                 if !view.problems.is_empty() {
                     response.status = StatusCode::SERVICE_UNAVAILABLE;
                 }
@@ -107,7 +107,7 @@ impl<'a, S: Sight> Clerk<'a, S> {
     }
 }
 
-impl<S: Sight> Service for Clerk<'_, S> {
+impl<S: Collector> Service for Handler<'_, S> {
     ghost answers = { λ old request response new. Unit {0} };
 
     fn call(

@@ -1,0 +1,113 @@
+//! What administrators reach the array by, beside its console: the window and the control socket.
+
+use crate::collector::ArrayCollector;
+use crate::control::{self, Control};
+use crate::served::Served;
+use block_file::{Blocks, Opener};
+use command_line::{Fault, Options};
+use portal::Gate;
+use std::alloc::Global;
+use std::fs::File;
+use std::net::{Net, TcpListener};
+use std::os::unix::net::UnixListener;
+use std::random::RandomSource;
+use std::rt::Files;
+use std::sync::{Arc, Wait};
+use std::thread::Threads;
+use std::time::Clock;
+use unit_history::Opened;
+use unit_sequence::Array as Naming;
+
+/// What administrators are to reach the array by.
+#[derive(Drop)]
+pub struct Administration<'a> {
+    /// The version that they are told.
+    pub version: &'static str,
+    /// The socket at which the window listens, where there is to be one.
+    pub http: Option<TcpListener>,
+    /// The path of the control socket, where there is to be one.
+    pub control: Option<&'a str>,
+}
+
+/// The sockets of both, where they are to be, and the version that they tell.
+#[derive(Drop)]
+pub(crate) struct Sockets {
+    pub(crate) version: &'static str,
+    pub(crate) http: Option<TcpListener>,
+    pub(crate) control: Option<UnixListener>,
+}
+
+/// The path of the control socket, where there is to be one.
+pub(crate) fn control_path<'a>(administration: &Option<Administration<'a>>) -> Option<&'a str> {
+    match administration {
+        Some(administration) => administration.control,
+        None => None,
+    }
+}
+
+/// The sockets that are to be: none, where there is no administration.
+pub(crate) fn open<R: Files<File = File> + Net>(
+    rt: &R,
+    administration: Option<Administration<'_>>,
+) -> Result<Sockets, Fault> {
+    let Some(
+        Administration {
+            version,
+            http,
+            control,
+        },
+    ) = administration
+    else {
+        return Ok(Sockets {
+            version: "",
+            http: None,
+            control: None,
+        });
+    };
+    let control = match control {
+        Some(path) => Some(control::listen(rt, path)?),
+        None => None,
+    };
+    Ok(Sockets {
+        version,
+        http,
+        control,
+    })
+}
+
+/// Answers at both sockets, by threads of their own, for what is served.
+pub(crate) fn answer<
+    N: Naming<Opened> + Send + Sync + 'static,
+    B: Blocks + Send + Sync + 'static,
+    F: Blocks + Send + Sync + 'static,
+    O: Opener<B> + Send + Sync + 'static,
+    G: Gate + Drop + Send + Sync + 'static,
+    R: Threads + Wait + Clock + RandomSource + Clone + Drop + Send + Sync + 'static,
+>(
+    rt: &R,
+    alloc: Global,
+    options: &Options<'_>,
+    server: &Served<B, F, O, N, G>,
+    sockets: Sockets,
+) -> Result<(), Fault> {
+    let Sockets {
+        version,
+        http,
+        control,
+    } = sockets;
+    if let Some(listener) = http {
+        let served = Arc::try_clone(server)?;
+        let collector = ArrayCollector::new(rt.clone()?, alloc, options, version, served)?;
+        if window::open(rt, alloc, listener, collector).is_err() {
+            return Err(Fault::NoMemory);
+        }
+    }
+    if let Some(listener) = control {
+        let served = Arc::try_clone(server)?;
+        let control = Control::new(rt.clone()?, version, served);
+        if control::answer(rt, alloc, listener, control).is_err() {
+            return Err(Fault::NoMemory);
+        }
+    }
+    Ok(())
+}

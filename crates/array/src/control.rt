@@ -1,0 +1,308 @@
+//! The control socket: lines for what the console's rules leave no room for.
+
+use crate::lines::{say_status, text_of};
+use crate::operated::Operated;
+use crate::registrations::registrations;
+use crate::served::Served;
+use block_file::{Blocks, Opener};
+use command_line::Fault;
+use portal::Gate;
+use scsi_types::Group;
+use std::alloc::{AllocError, Global};
+use std::fs::{self, File, Permissions};
+use std::io::{self, BufRead, BufReader, ErrorKind, Read, Write};
+use std::net::Net;
+use std::os::unix::fs::PermissionsExt;
+use std::os::unix::net::{UnixListener, UnixStream};
+use std::rt::Files;
+use std::sync::Wait;
+use std::thread::{self, Builder, JoinHandle, Threads};
+use std::time::{Clock, Duration};
+use unit_history::Opened;
+use unit_sequence::Array as Naming;
+use window::{Registration, Session};
+
+/// Its owner may read and write.
+const OWNER_ALONE: u32 = 0o600;
+
+/// For so many seconds may a connection be silent, or take nothing.
+const PATIENCE: u64 = 10;
+
+/// A connection is read so many bytes, and closed then.
+const MOST: u64 = 65536;
+
+/// So many milliseconds the accept loop rests where no connection could be accepted.
+const REST: u64 = 100;
+
+/// What the stack of its thread takes.
+const STACK: usize = 256 * 1024;
+
+/// How often is looked whether somebody connected before the socket was its owner's alone.
+const STRANGERS: usize = 4096;
+
+const HELP: &str = "status      a line for each unit
+sessions    a line for each session that is logged in
+keys U      a line for each registration of a unit
+end TSIH    closes the connection of a session
+up 1, up 2  gives a controller the units back that prefer it
+version     the version of the program
+help        these lines
+";
+
+/// The control socket's way to an array that is served.
+pub(crate) struct Control<
+    R: Wait + Clock + Drop,
+    B: Blocks,
+    F: Blocks,
+    O: Opener<B>,
+    N: Naming<Opened>,
+    G: Drop,
+> {
+    rt: R,
+    version: &'static str,
+    server: Served<B, F, O, N, G>,
+}
+
+impl<R: Wait + Clock + Drop, B: Blocks, F: Blocks, O: Opener<B>, N: Naming<Opened>, G: Drop> Drop
+    for Control<R, B, F, O, N, G> {
+    fn drop(self) {
+        let Self {
+            rt: _,
+            version: _,
+            server: _,
+        } = self;
+    }
+}
+
+// Writes a line for a session. The name of its initiator, which a host chose, stands last and between quotes.
+fn say_session<W: Write>(writer: &mut W, session: &Session) -> io::Result<()> {
+    let (tsih, controller, kind) = (session.tsih, session.controller, session.kind);
+    write!(
+        writer,
+        "session {tsih} controller {controller} type {kind} "
+    )?;
+    let (isid, peer, portal) = (
+        session.isid.as_str(),
+        session.peer.as_str(),
+        session.portal.as_str(),
+    );
+    write!(writer, "isid {isid} peer {peer} portal {portal} ")?;
+    let (since, commands) = (session.since, session.commands);
+    let last = session.last_command.unwrap_or("none");
+    write!(writer, "since {since} commands {commands} last {last} ")?;
+    let initiator = session.initiator.as_str();
+    writeln!(writer, "initiator \"{initiator}\"")
+}
+
+// Writes a line for a registration. The name of its initiator, which a host chose, stands last and between quotes.
+fn say_key<W: Write>(writer: &mut W, registration: &Registration) -> io::Result<()> {
+    let (key, controller) = (registration.key.as_str(), registration.controller);
+    let (isid, kind) = (registration.isid.as_str(), registration.reservation_type);
+    write!(
+        writer,
+        "key {key} controller {controller} isid {isid} holds {kind} "
+    )?;
+    let initiator = registration.initiator.as_str();
+    writeln!(writer, "initiator \"{initiator}\"")
+}
+
+// Writes what became of a session that was to end.
+fn say_end<W: Write>(writer: &mut W, is_ended: bool) -> io::Result<()> {
+    if is_ended {
+        writeln!(writer, "ended")
+    } else {
+        writeln!(writer, "no session")
+    }
+}
+
+impl<
+    R: Wait + Clock + Drop,
+    B: Blocks,
+    F: Blocks,
+    O: Opener<B>,
+    N: Naming<Opened>,
+    G: Drop,
+> Control<R, B, F, O, N, G> {
+    /// That to this array, by which this version is told.
+    pub(crate) fn new(
+        rt: R,
+        version: &'static str,
+        server: Served<B, F, O, N, G>,
+    ) -> Control<R, B, F, O, N, G> {
+        Control {
+            rt,
+            version,
+            server,
+        }
+    }
+
+    // The sessions that are logged in.
+    fn sessions(&self, alloc: Global) -> Result<Vec<Session>, AllocError> {
+        let now = self.rt.monotonic().unwrap_or(Duration::ZERO);
+        let mut sessions = Vec::new(alloc);
+        if let Some(meters) = self.server.log.meters() {
+            for seen in &meters.look(&self.rt, alloc, now)?.sessions {
+                sessions.push(window::session(alloc, seen)?)?;
+            }
+        }
+        Ok(sessions)
+    }
+
+    fn say_sessions<W: Write>(&self, alloc: Global, writer: &mut W) -> io::Result<()> {
+        for session in &self.sessions(alloc)? {
+            say_session(writer, session)?;
+        }
+        Ok(())
+    }
+
+    fn operated(&self) -> Operated<'_, R, B, F, O, N> {
+        Operated {
+            rt: &self.rt,
+            controllers: &self.server.device.units,
+            log: &self.server.log,
+        }
+    }
+
+    fn say_up<W: Write>(&self, alloc: Global, writer: &mut W, controller: Group) -> io::Result<()> {
+        match self.operated().up(alloc, controller)? {
+            Ok(()) => writeln!(writer, "up"),
+            Err(unit) => writeln!(writer, "not moved {unit}"),
+        }
+    }
+
+    // Writes the registrations of a unit.
+    fn say_keys<W: Write>(&self, alloc: Global, writer: &mut W, unit: u8) -> io::Result<()> {
+        let units = self.server.device.units.units();
+        if usize::from(unit) >= units.count() {
+            return writeln!(writer, "no unit");
+        }
+        let Some(registrations) = registrations(alloc, units, usize::from(unit)) else {
+            return writeln!(writer, "busy");
+        };
+        for registration in &registrations {
+            say_key(writer, registration)?;
+        }
+        Ok(())
+    }
+
+    // Answers a line whose second word is a number, or that is none of those that there are.
+    fn say_numbered<W: Write>(&self, alloc: Global, writer: &mut W, text: &str) -> io::Result<()> {
+        if let Some(number) = text.strip_prefix("keys ")
+            && let Ok(unit) = number.parse::<u8>()
+        {
+            return self.say_keys(alloc, writer, unit);
+        }
+        if let Some(number) = text.strip_prefix("end ")
+            && let Ok(tsih) = number.parse::<u16>()
+        {
+            let is_ended = self.server.device.sessions.lock(&self.rt).shut(tsih);
+            return say_end(writer, is_ended);
+        }
+        writeln!(writer, "?")
+    }
+
+    // Answers a line.
+    fn answer<W: Write>(&self, alloc: Global, writer: &mut W, line: &[u8]) -> io::Result<()> {
+        let version = self.version;
+        match text_of(line) {
+            Some("status") => say_status(writer, &mut self.operated()),
+            Some("up 1") => self.say_up(alloc, writer, Group::One),
+            Some("up 2") => self.say_up(alloc, writer, Group::Two),
+            Some("sessions") => self.say_sessions(alloc, writer),
+            Some("version") => writeln!(writer, "arrayd {version}"),
+            Some("help") => write!(writer, "{HELP}"),
+            Some(text) => self.say_numbered(alloc, writer, text),
+            None => writeln!(writer, "?"),
+        }
+    }
+
+    // Answers the lines of a connection, until its end.
+    fn attend(&self, alloc: Global, stream: &UnixStream) -> io::Result<()> {
+        let patience = Some(Duration::from_secs(PATIENCE));
+        stream.set_read_timeout(patience)?;
+        stream.set_write_timeout(patience)?;
+        let mut writer = stream;
+        for line in BufReader::new(alloc, stream.take(MOST))?.split(alloc, b'\n') {
+            let mut answer = Vec::new(alloc);
+            self.answer(alloc, &mut answer, &line?)?;
+            writer.write_all(&answer)?;
+        }
+        Ok(())
+    }
+
+    // Attends to one connection after another.
+    fn accept(&self, alloc: Global, listener: &UnixListener) {
+        for stream in listener.incoming() {
+            match stream {
+                Ok(stream) => {
+                    let _ = self.attend(alloc, &stream);
+                }
+                Err(_) => thread::sleep(&self.rt, Duration::from_millis(REST)),
+            }
+        }
+    }
+}
+
+// Closes the connections that came before the socket was its owner's alone.
+fn turn_strangers_away(listener: &UnixListener) -> io::Result<()> {
+    listener.set_nonblocking(true)?;
+    for _ in 0..STRANGERS {
+        match listener.accept() {
+            Ok(_) => {}
+            Err(e) if e.kind() == ErrorKind::WouldBlock => break,
+            Err(e) => return Err(e),
+        }
+    }
+    listener.set_nonblocking(false)
+}
+
+// What made no control socket: a path that none can have is a wrong word.
+fn fault_of(error: &io::Error) -> Fault {
+    match error.kind() {
+        ErrorKind::InvalidInput => Fault::WrongWords,
+        _ => Fault::CannotControl,
+    }
+}
+
+/// The control socket at this path, where nothing is yet. Only its owner may connect.
+pub(crate) fn listen<R: Files<File = File> + Net>(
+    rt: &R,
+    path: &str,
+) -> Result<UnixListener, Fault> {
+    let listener = match UnixListener::bind(rt, path) {
+        Ok(listener) => listener,
+        Err(error) => return Err(fault_of(&error)),
+    };
+    let is_its_own = fs::set_permissions(rt, path, Permissions::from_mode(OWNER_ALONE)).is_ok();
+    if is_its_own && turn_strangers_away(&listener).is_ok() {
+        return Ok(listener);
+    }
+    remove(rt, Some(path));
+    Err(Fault::CannotControl)
+}
+
+/// Removes the control socket at this path, where there is one.
+pub(crate) fn remove(rt: &impl Files, path: Option<&str>) {
+    if let Some(path) = path {
+        let _ = fs::remove_file(rt, path);
+    }
+}
+
+/// Answers at the control socket, by a thread of its own.
+pub(crate) fn answer<
+    N: Naming<Opened> + Send + Sync + 'static,
+    B: Blocks + Send + Sync + 'static,
+    F: Blocks + Send + Sync + 'static,
+    O: Opener<B> + Send + Sync + 'static,
+    G: Gate + Drop + Send + Sync + 'static,
+    R: Threads + Wait + Clock + Clone + Drop + Send + Sync + 'static,
+>(
+    rt: &R,
+    alloc: Global,
+    listener: UnixListener,
+    control: Control<R, B, F, O, N, G>,
+) -> io::Result<()> {
+    let work = move || control.accept(alloc, &listener);
+    let _thread: JoinHandle<()> = Builder::new().stack_size(STACK).spawn(rt, work)?;
+    Ok(())
+}

@@ -1,0 +1,98 @@
+//! What the environment asks for to administer the array by: the window and the control socket.
+
+use crate::settings::value_of;
+use crate::told::VERSION;
+use array::Administration;
+use command_line::Fault;
+use event_log::{Event, Log, Meters};
+use std::alloc::Global;
+use std::env::Env;
+use std::net::{Net, SocketAddrV4, TcpListener, TcpStream};
+use std::sync::Arc;
+use std::time::Clock;
+
+/// The variable that says where the window is.
+const HTTP: &str = "ARRAYD_HTTP";
+
+/// The variable that names the path of the control socket.
+const CONTROL: &str = "ARRAYD_CONTROL";
+
+/// What is asked for: where the window is to be, and the path of the control socket.
+#[derive(Drop)]
+pub struct Asked {
+    http: Option<SocketAddrV4>,
+    control: Option<String>,
+}
+
+// The address that a text names, whose port is not 0.
+fn address_in(text: &str) -> Result<SocketAddrV4, Fault> {
+    match text.parse::<SocketAddrV4>() {
+        Ok(at) if at.port() != 0 => Ok(at),
+        _ => Err(Fault::WrongWords),
+    }
+}
+
+/// What the environment asks for.
+pub fn asked<R: Env + AllocGlobal>(rt: &R) -> Result<Asked, Fault> {
+    let http = match value_of(rt, HTTP)? {
+        Some(text) => Some(address_in(text.as_str())?),
+        None => None,
+    };
+    let control = value_of(rt, CONTROL)?;
+    Ok(Asked { http, control })
+}
+
+// The socket of a window at this address. Of one that cannot listen the log is told as of a portal, of no controller.
+fn listen<R: Net<Listener = TcpListener, Stream = TcpStream> + Clock>(
+    rt: &R,
+    log: &Log,
+    at: SocketAddrV4,
+) -> Result<TcpListener, Fault> {
+    match TcpListener::bind(rt, at) {
+        Ok(listener) => {
+            log.tell(rt, &Event::Listening(0, at));
+            Ok(listener)
+        }
+        Err(e) => {
+            let error = u32::try_from(e.raw_os_error().unwrap_or(0)).unwrap_or(0);
+            log.tell(rt, &Event::CannotListen(0, at, error));
+            Err(Fault::CannotListenAt(at))
+        }
+    }
+}
+
+impl Asked {
+    // Whether anything is asked for.
+    fn is_some(&self) -> bool {
+        self.http.is_some() || self.control.is_some()
+    }
+
+    /// A log that counts what it is told, where anything is asked for.
+    pub fn counted(&self, alloc: Global, log: Log, units: usize) -> Result<Log, Fault> {
+        if !self.is_some() {
+            return Ok(log);
+        }
+        Ok(log.counting(Arc::new(alloc, Meters::new(alloc, units)?)?))
+    }
+
+    /// What administrators reach the array by, where anything is asked for.
+    pub fn opened<R: Net<Listener = TcpListener, Stream = TcpStream> + Clock>(
+        &self,
+        rt: &R,
+        log: &Log,
+    ) -> Result<Option<Administration<'_>>, Fault> {
+        if !self.is_some() {
+            return Ok(None);
+        }
+        let http = match self.http {
+            Some(at) => Some(listen(rt, log, at)?),
+            None => None,
+        };
+        let control = self.control.as_deref();
+        Ok(Some(Administration {
+            version: VERSION,
+            http,
+            control,
+        }))
+    }
+}

@@ -1,0 +1,368 @@
+#!/usr/bin/env python3
+"""Asks a running array by its control socket, and compares what it says with what this script did and what the console says.
+Prints a line for each case. Ends with status 1 where something is otherwise.
+
+usage: trials/control.py [NAME..]      all, where none is named
+
+The program is ./arrayd, or what the environment's ARRAYD names.
+"""
+
+import os
+import re
+import socket
+import stat
+import subprocess
+import sys
+import tempfile
+import time
+
+from running import PORT, TOP, Array, Wrong, ended, made
+from trouble import NotHere, is_so, lines
+from window import HOSTILE, host
+
+CASES = []
+SESSION = re.compile(r'session (\d+) controller ([12]) type (normal|discovery) isid (0x[0-9a-f]+) peer ([0-9.]+:\d+) '
+                     r'portal ([0-9.]+:\d+) since (\d+) commands (\d+) last ([a-z_]+) initiator "((?:[^"\\]|\\["\\]|\\x[0-9a-f]{2})*)"')
+HELP = ["status", "sessions", "keys U", "end TSIH", "up 1, up 2", "version", "help"]
+
+
+def case(function):
+    CASES.append(function)
+    return function
+
+
+def array_in(folder, units=1, log=None, more=None):
+    disks = [made(f"{folder}/disk{unit}", 4096) for unit in range(units)]
+    return Array(disks, log=log, more={"ARRAYD_CONTROL": f"{folder}/control", **(more or {})})
+
+
+def connected(folder, timeout=20):
+    peer = socket.socket(socket.AF_UNIX)
+    peer.settimeout(timeout)
+    peer.connect(f"{folder}/control")
+    return peer
+
+
+def all_of(peer):
+    said = b""
+    while part := peer.recv(65536):
+        said += part
+    return said
+
+
+def asked(folder, text):
+    """The lines that answer this text."""
+    with connected(folder) as peer:
+        peer.sendall(text if isinstance(text, bytes) else text.encode() + b"\n")
+        peer.shutdown(socket.SHUT_WR)
+        return all_of(peer).decode("ascii").splitlines()
+
+
+def sessions(folder):
+    """The sessions by ISID, each of whose lines has to be spelled as lines are."""
+    found = {}
+    for line in asked(folder, "sessions"):
+        told = SESSION.fullmatch(line)
+        if not told:
+            raise Wrong(f"no session: {line!r}")
+        found[int(told[4], 16)] = told
+    return found
+
+
+def until(true, seconds=5):
+    end = time.monotonic() + seconds
+    while not true() and time.monotonic() < end:
+        time.sleep(0.01)
+    return true()
+
+
+def is_closed(session):
+    session.socket.settimeout(5)
+    try:
+        return session.socket.recv(1) == b""
+    except ConnectionError:
+        return True
+
+
+@case
+def words(folder):
+    with array_in(folder, 2) as array:
+        is_so("status", asked(folder, "status"), array.ask("status", 2))
+        array.ask("down 1")
+        is_so("status then", asked(folder, "status"), array.ask("status", 2))
+        with open(f"{TOP}/VERSION", encoding="ascii") as file:
+            is_so("version", asked(folder, "version"), [f"arrayd {file.read().strip()}"])
+        is_so("help", [re.split("  +", line)[0] for line in asked(folder, "help")], HELP)
+        is_so("sessions", asked(folder, "sessions"), [])
+        for text in ("", "no", "STATUS", "quit", "down 1", " status", "status ", "end", "end ", "end x", "end -1", "end 65536", "end 1 2",
+                     "sessions 1", "\u00e9"):
+            is_so(text, asked(folder, text), ["?"])
+        is_so("no UTF-8", asked(folder, b"\xff\xfe\n"), ["?"])
+        is_so("CR LF", asked(folder, b"version\r\nversion\r\n"), ["arrayd 1.0.0"] * 2)
+        is_so("no end of line", asked(folder, b"version"), ["arrayd 1.0.0"])
+        is_so("the units", array.status(1, 2)["owner"], "2")
+        array.quit()
+
+
+@case
+def who_is_there(folder):
+    with array_in(folder) as array:
+        began = time.time()
+        first, second = host(1), host(2, "iqn.2000-01.test:other", 0x400001370007)
+        first.read(0, 0, 1)
+        found = sessions(folder)
+        is_so("ISIDs", sorted(found), [0x400001370000, 0x400001370007])
+        one, two = found[0x400001370000], found[0x400001370007]
+        is_so("controllers", (one[2], two[2]), ("1", "2"))
+        is_so("initiators", (one[10], two[10]), ("iqn.2000-01.test:host", "iqn.2000-01.test:other"))
+        is_so("peers", (one[5], two[6]), ("127.0.0.1:%d" % first.socket.getsockname()[1], f"127.0.0.1:{PORT + 4}"))
+        is_so("commands", (one[8], one[9], two[8], two[9]), ("2", "read", "1", "other"))
+        is_so("since", abs(int(one[7]) - began) < 3, True)
+        first.logout()
+        is_so("left", until(lambda: list(sessions(folder)) == [0x400001370007]), True)
+        second.close()
+        array.quit()
+
+
+@case
+def names(folder):
+    with array_in(folder) as array:
+        open_ = [host(1, name, 0x400001370000 + at) for at, name in enumerate(HOSTILE)]
+        found = sessions(folder)
+        for at, name in enumerate(HOSTILE):
+            said = re.sub(rb'\\x([0-9a-f]{2})|\\(["\\])', lambda m: bytes([int(m[1], 16)]) if m[1] else m[2],
+                          found[0x400001370000 + at][10].encode())
+            is_so("the name", said, name.encode())
+        for session in open_:
+            session.close()
+        array.quit()
+
+
+@case
+def session_that_is_ended(folder):
+    log = f"{folder}/log"
+    with array_in(folder, log=log) as array:
+        first, second = host(1), host(2, isid=0x400001370007)
+        tsih = sessions(folder)[0x400001370000][1]
+        is_so("none", asked(folder, "end 65535"), ["no session"])
+        is_so("ended", asked(folder, f"end {tsih}"), ["ended"])
+        is_so("its connection", is_closed(first), True)
+        is_so("the other one", second.read(0, 0, 1), bytes(512))
+        is_so("gone", until(lambda: list(sessions(folder)) == [0x400001370007]), True)
+        is_so("once", asked(folder, f"end {tsih}"), ["no session"])
+        again = host(1)
+        is_so("it came again", again.read(0, 0, 1), bytes(512))
+        array.quit()
+        is_so("the log", any(f"tsih={tsih} " in line + " " for line in lines(log, "session_ended")), True)
+
+
+def may_connect_as(user, folder):
+    child = os.fork()
+    if child == 0:
+        try:
+            os.setgroups([])
+            os.setgid(user)
+            os.setuid(user)
+            connected(folder)
+            os._exit(0)
+        except PermissionError:
+            os._exit(1)
+        finally:
+            os._exit(2)
+    return {0: True, 1: False}[os.waitstatus_to_exitcode(os.waitpid(child, 0)[1])]
+
+
+@case
+def keys(folder):
+    with array_in(folder, 2) as array:
+        first, second = host(1), host(2)
+        is_so("none", (asked(folder, "keys 0"), asked(folder, "keys 1"), asked(folder, "keys 2")), ([], [], ["no unit"]))
+        first.reserve_out(0, 0, new_key=0x11)
+        second.reserve_out(0, 0, new_key=0xABC)
+        second.reserve_out(0, 1, kind=3, key=0xABC)
+        ends = 'isid 0x400001370000 holds {} initiator "iqn.2000-01.test:host"'
+        is_so("keys", asked(folder, "keys 0"), ["key 0x11 controller 1 " + ends.format(0), "key 0xabc controller 2 " + ends.format(3)])
+        for text in ("keys", "keys ", "keys x", "keys 256"):
+            is_so(text, asked(folder, text), ["?"])
+        array.quit()
+
+
+@case
+def controller_that_comes_up(folder):
+    log = f"{folder}/log"
+    with array_in(folder, 3, log=log) as array:
+        first, second = host(1), host(2)
+        array.ask("down 1")
+        array.ask("status", 3)
+        entries = [int(array.status(unit, 3)["entries"]) for unit in range(3)]
+        is_so("up", asked(folder, "up 1"), ["up"])
+        lines_ = [array.status(unit, 3) for unit in range(3)]
+        is_so("owners", [line["owner"] for line in lines_], ["1", "2", "1"])
+        is_so("states", [line["states"] for line in lines_], [("0", "1"), ("1", "0"), ("0", "1")])
+        is_so("an entry each", [int(line["entries"]) for line in lines_], [n + 1 for n in entries])
+        for session in (first, second):
+            for unit in range(3):
+                is_so("a host is told once", session.command(unit, [0] * 6).sense_key(), (6, 0x2A, 6))
+                is_so("and goes on", session.read(unit, 0, 1), bytes(512))
+        is_so("again", (asked(folder, "up 1"), array.status(0, 3)["owner"]), (["up"], "1"))
+        array.ask("down 2")
+        is_so("up 2", asked(folder, "up 2"), ["up"])
+        is_so("owners then", [array.status(unit, 3)["owner"] for unit in range(3)], ["1", "2", "1"])
+        array.ask("down 1")
+        os.remove(f"{folder}/disk0")
+        is_so("a disk that is gone", asked(folder, "up 1"), ["not moved 0"])
+        array.quit()
+        is_so("the log", (len(lines(log, "not_moved")), len(lines(log, "groups_set")) >= 9), (1, True))
+
+
+@case
+def owner_alone(folder):
+    os.chmod(folder, 0o755)
+    before = os.umask(0)
+    try:
+        array = array_in(folder)
+    finally:
+        os.umask(before)
+    with array:
+        kind = os.stat(f"{folder}/control").st_mode
+        is_so("a socket", (stat.S_ISSOCK(kind), stat.S_IMODE(kind)), (True, 0o600))
+        if os.getuid() == 0:
+            is_so("another user", may_connect_as(65534, folder), False)
+        is_so("its owner", asked(folder, "version"), ["arrayd 1.0.0"])
+        array.quit()
+        is_so("it is gone", os.path.exists(f"{folder}/control"), False)
+
+
+@case
+def paths(folder):
+    disk = made(f"{folder}/disk", 64)
+    start = lambda path: ended(["--port", str(PORT), disk], more={"ARRAYD_CONTROL": path})
+    none = (1, "arrayd: cannot make the control socket")
+    with open(f"{folder}/file", "w", encoding="ascii") as file:
+        file.write("mine")
+    is_so("there already", start(f"{folder}/file"), none)
+    with open(f"{folder}/file", encoding="ascii") as file:
+        is_so("untouched", file.read(), "mine")
+    is_so("a folder", start(folder), none)
+    is_so("no folder", start(f"{folder}/none/control"), none)
+    is_so("a folder's", start(f"{folder}/control/"), none)
+    is_so("too long", start(folder + "/" + "x" * 120), (2, "arrayd: wrong words"))
+    with array_in(folder) as array:
+        is_so("of another array", start(f"{folder}/control"), none)
+        is_so("which has it still", asked(folder, "version"), ["arrayd 1.0.0"])
+        array.kill()
+    is_so("of one that was killed", start(f"{folder}/control"), none)
+    os.remove(f"{folder}/control")
+    with socket.create_server(("127.0.0.1", PORT)):
+        is_so("a start that fails", start(f"{folder}/control"), (1, "arrayd: cannot listen at controller 1 portal 0"))
+    is_so("leaves nothing", os.path.exists(f"{folder}/control"), False)
+    with Array([disk], more={"ARRAYD_CONTROL": ""}) as array:
+        is_so("none", array.status()["owner"], "1")
+        array.quit()
+
+
+@case
+def silent_peer(folder):
+    """One that says nothing holds others up for ten seconds; sessions and the console never."""
+    with array_in(folder) as array:
+        session, began = host(), time.monotonic()
+        with connected(folder):
+            is_so("the console", array.status()["owner"], "1")
+            is_so("a session", session.read(0, 0, 1), bytes(512))
+            is_so("then", asked(folder, "version"), ["arrayd 1.0.0"])
+            is_so("about ten seconds", 8 < time.monotonic() - began < 13, True)
+        with connected(folder) as peer:
+            peer.sendall(b"version\nver")
+            is_so("whole lines", peer.recv(100), b"arrayd 1.0.0\n")
+        with connected(folder) as peer:
+            peer.sendall(b"status\n" * 20000)
+        with connected(folder) as peer:
+            try:
+                peer.sendall(b"x" * 10000000)
+            except ConnectionError:
+                pass
+        is_so("a line without an end", asked(folder, "version"), ["arrayd 1.0.0"])
+        is_so("one that does not read", until(lambda: asked(folder, "version") == ["arrayd 1.0.0"], 15), True)
+        session.close()
+        array.quit()
+
+
+@case
+def console_as_before(folder):
+    """The console says the same with a control socket and without."""
+    said = []
+    for more in ({}, {"ARRAYD_CONTROL": f"{folder}/control", "ARRAYD_HTTP": "127.0.0.1:%d" % (15000 + os.getpid() % 5000)}):
+        with Array([made(f"{folder}/disk", 64), made(f"{folder}/more", 64)], more=more) as array:
+            words_ = "status\nsessions\nversion\nend 1\nup 1\nhelp\n\xe9\ndown 1\nstatus\ndown 1\nup 1\n"
+            out, err = array.process.communicate(words_ + "quit\n", timeout=30)
+            said.append((out, err, array.process.returncode))
+    is_so("the same", said[0], said[1])
+    is_so("unknown", said[0][0].count("?"), 7)
+
+
+@case
+def beside_the_window(folder):
+    """What it tells of sessions is what the window tells."""
+    import json
+    at = 15000 + os.getpid() % 5000
+    with array_in(folder, more={"ARRAYD_HTTP": f"127.0.0.1:{at}"}) as array:
+        session = host()
+        session.read(0, 0, 1)
+        with socket.create_connection(("127.0.0.1", at)) as peer:
+            peer.sendall(b"GET /status HTTP/1.1\r\nHost: h\r\n\r\n")
+            view = json.loads(all_of(peer).partition(b"\r\n\r\n")[2])["sessions"][0]
+        told = sessions(folder)[0x400001370000]
+        is_so("the same", [str(view[name]) for name in ("tsih", "controller", "kind", "isid", "peer", "portal", "since", "commands",
+                                                         "last_command", "initiator")], list(told.groups()))
+        array.quit()
+
+
+@case
+def console_of_the_service(folder):
+    """arrayd-console asks the control socket where it is there."""
+    os.mkfifo(f"{folder}/console")
+    os.mkfifo(f"{folder}/told")
+    ask = lambda *words_: subprocess.run([f"{TOP}/service/arrayd-console", folder, *words_], capture_output=True, text=True, check=False,
+                                         timeout=60)
+    console, told = (os.open(f"{folder}/{name}", os.O_RDWR) for name in ("console", "told"))
+    disk = made(f"{folder}/disk", 64)
+    program = subprocess.Popen([os.environ.get("ARRAYD", f"{TOP}/arrayd"), "--port", str(PORT), disk], stdin=console, stdout=told,
+                               env={**os.environ, "ARRAYD_CONTROL": f"{folder}/control"})
+    os.close(console)
+    os.close(told)
+    try:
+        is_so("ready", ask("ready").stdout[:6], "unit 0")
+        session = host()
+        line = ask("sessions").stdout
+        is_so("sessions", bool(SESSION.fullmatch(line.strip())), True)
+        is_so("status", ask("status").stdout, "unit 0 owner 1 states 0 1 generation 0 keys 0 type 0 entries 2\n")
+        is_so("version", ask("version").stdout, "arrayd 1.0.0\n")
+        is_so("end", (ask("end", SESSION.fullmatch(line.strip())[1]).stdout, is_closed(session)), ("ended\n", True))
+        is_so("none", (ask("end", "65535").returncode, ask("end", "x").returncode), (1, 2))
+        is_so("down", ask("down", "1").stdout, "down\n")
+        is_so("quit", ask("quit").returncode, 0)
+        is_so("no array", ask("sessions").returncode, 3)
+    finally:
+        program.kill()
+        program.wait()
+
+
+def main():
+    wanted, failed = sys.argv[1:], 0
+    for tried in CASES:
+        if wanted and tried.__name__ not in wanted:
+            continue
+        with tempfile.TemporaryDirectory() as folder:
+            try:
+                tried(folder)
+                print(f"ok    {tried.__name__}", flush=True)
+            except NotHere as why:
+                print(f"left  {tried.__name__}: no {why}", flush=True)
+            except (Wrong, OSError, KeyError, IndexError, AssertionError, subprocess.SubprocessError) as why:
+                failed += 1
+                print(f"WRONG {tried.__name__}: {why!r}", flush=True)
+    sys.exit(1 if failed else 0)
+
+
+if __name__ == "__main__":
+    main()
