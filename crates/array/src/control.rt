@@ -163,8 +163,8 @@ impl<
         }
     }
 
-    fn say_up<W: Write>(&self, alloc: Global, writer: &mut W, controller: Group) -> io::Result<()> {
-        match self.operated().up(alloc, controller)? {
+    fn say_up<W: Write>(&self, writer: &mut W, controller: Group) -> io::Result<()> {
+        match self.operated().up(controller) {
             Ok(()) => writeln!(writer, "up"),
             Err(unit) => writeln!(writer, "not moved {unit}"),
         }
@@ -206,8 +206,8 @@ impl<
         let version = self.version;
         match text_of(line) {
             Some("status") => say_status(writer, &mut self.operated()),
-            Some("up 1") => self.say_up(alloc, writer, Group::One),
-            Some("up 2") => self.say_up(alloc, writer, Group::Two),
+            Some("up 1") => self.say_up(writer, Group::One),
+            Some("up 2") => self.say_up(writer, Group::Two),
             Some("sessions") => self.say_sessions(alloc, writer),
             Some("version") => writeln!(writer, "arrayd {version}"),
             Some("help") => write!(writer, "{HELP}"),

@@ -7,7 +7,6 @@ use failover::{Mover, NotMoved, bring_up, preferred, take_down};
 use portal::Controllers;
 use scsi_types::Group;
 use status::Row;
-use std::alloc::{AllocError, Global};
 use std::sync::Wait;
 use std::time::Clock;
 use unit_history::Opened;
@@ -40,6 +39,15 @@ fn stayed(why: MoveFault) -> Stayed {
     }
 }
 
+// Whether a controller that comes up concerns a unit with these states: the unit prefers it, or cannot be reached by it.
+fn concerns(controller: Group, place: usize, states: (u64, u64)) -> bool {
+    let state = match controller {
+        Group::One => states.0,
+        Group::Two => states.1,
+    };
+    preferred(place) == controller || state == UNAVAILABLE
+}
+
 impl<R: Wait + Clock, B: Blocks, F: Blocks, O: Opener<B>, N: Naming<Opened>> Operated<
     '_,
     R,
@@ -60,74 +68,56 @@ impl<R: Wait + Clock, B: Blocks, F: Blocks, O: Opener<B>, N: Naming<Opened>> Ope
         states
     }
 
-    // Tells of each unit at which the states are others than these.
-    fn tell_set(&self, before: &[(u64, u64); MAX_UNITS], owner: u16) {
-        for (place, (before, now)) in before.iter().zip(&self.states()).enumerate() {
+    // Tells what a move of units came to: of each at which the states are others than before, the owner that it got; and of the
+    // one that stays, if one does.
+    fn tell_moves(
+        &self,
+        before: &[(u64, u64); MAX_UNITS],
+        owners: &[Group; MAX_UNITS],
+        end: Result<(), NotMoved>,
+    ) -> Result<(), usize> {
+        for (place, ((before, now), owner)) in before
+            .iter()
+            .zip(&self.states())
+            .zip(owners)
+            .enumerate()
+        {
             if before != now {
+                let owner = u16::from(owner.number());
                 let (first, second) = (Access::of(now.0), Access::of(now.1));
                 let set = Event::GroupsSet(number(place), owner, first, second, By::Console);
                 self.log.tell(self.rt, &set);
             }
         }
+        let Err(NotMoved { unit, why }) = end else {
+            return Ok(());
+        };
+        if let Some(owner) = owners.get(unit) {
+            let owner = u16::from(owner.number());
+            let stays = Event::NotMoved(number(unit), owner, stayed(why), By::Console);
+            self.log.tell(self.rt, &stays);
+        }
+        Err(unit)
     }
-}
 
-// Whether a controller that comes up concerns a unit with these states: the unit prefers it, or cannot be reached by it.
-fn concerns(controller: Group, place: usize, states: (u64, u64)) -> bool {
-    let state = match controller {
-        Group::One => states.0,
-        Group::Two => states.1,
-    };
-    preferred(place) == controller || state == UNAVAILABLE
-}
-
-impl<R: Wait + Clock, B: Blocks, F: Blocks, O: Opener<B>, N: Naming<Opened>> Operated<
-    '_,
-    R,
-    B,
-    F,
-    O,
-    N,
-> {
     /// Brings a controller up, unit by unit: each that prefers it gets it as its owner, and it is active/non-optimized for each
     /// other at which it was unavailable. The first unit that does not move is told; those behind it stay.
-    pub(crate) fn up(
-        &mut self,
-        alloc: Global,
-        controller: Group,
-    ) -> Result<Result<(), usize>, AllocError> {
-        let units = self.controllers.units();
+    pub(crate) fn up(&mut self, controller: Group) -> Result<(), usize> {
         let before = self.states();
-        let mut chosen = Vec::with_capacity(alloc, MAX_UNITS)?;
-        for (place, states) in before.iter().enumerate() {
-            if place < units.count() {
-                chosen.push(concerns(controller, place, *states))?;
-            }
+        let mut owners = [controller; MAX_UNITS];
+        let mut chosen = [false; MAX_UNITS];
+        for (place, ((owner, chosen), states)) in owners
+            .iter_mut()
+            .zip(&mut chosen)
+            .zip(&before)
+            .enumerate()
+        {
+            *owner = preferred(place);
+            *chosen = concerns(controller, place, *states);
         }
-        let mut mover = Mover::new(units);
+        let mut mover = Mover::new(self.controllers.units());
         let end = bring_up(self.rt, &mut mover, &chosen);
-        self.tell_up(&before);
-        match end {
-            Ok(()) => Ok(Ok(())),
-            Err(NotMoved { unit, why }) => {
-                let owner = u16::from(preferred(unit).number());
-                let stays = Event::NotMoved(number(unit), owner, stayed(why), By::Console);
-                self.log.tell(self.rt, &stays);
-                Ok(Err(unit))
-            }
-        }
-    }
-
-    // Tells of each unit at which the states are others than these, and the owner with them.
-    fn tell_up(&self, before: &[(u64, u64); MAX_UNITS]) {
-        for (place, (before, now)) in before.iter().zip(&self.states()).enumerate() {
-            if before != now {
-                let owner = u16::from(preferred(place).number());
-                let (first, second) = (Access::of(now.0), Access::of(now.1));
-                let set = Event::GroupsSet(number(place), owner, first, second, By::Console);
-                self.log.tell(self.rt, &set);
-            }
-        }
+        self.tell_moves(&before, &owners, end)
     }
 }
 
@@ -143,20 +133,10 @@ impl<R: Wait + Clock, B: Blocks, F: Blocks, O: Opener<B>, N: Naming<Opened>> Ope
     }
 
     fn down(&mut self, controller: Group) -> Result<(), usize> {
-        let units = self.controllers.units();
-        let mut mover = Mover::new(units);
         let before = self.states();
+        let mut mover = Mover::new(self.controllers.units());
         let end = take_down(self.rt, &mut mover, controller);
-        let owner = u16::from(controller.other().number());
-        self.tell_set(&before, owner);
-        match end {
-            Ok(()) => Ok(()),
-            Err(NotMoved { unit, why }) => {
-                let stays = Event::NotMoved(number(unit), owner, stayed(why), By::Console);
-                self.log.tell(self.rt, &stays);
-                Err(unit)
-            }
-        }
+        self.tell_moves(&before, &[controller.other(); MAX_UNITS], end)
     }
 
     fn close(&mut self) {

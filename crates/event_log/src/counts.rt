@@ -30,7 +30,7 @@ pub enum Ended {
     Busy,
 }
 
-/// A command that was answered: the bytes that it read and wrote, and the time from its last byte to its answer.
+/// A command that was answered, and the bytes that it read and wrote.
 #[derive(Clone, Copy)]
 pub struct Served {
     pub operation: Operation,
@@ -39,7 +39,6 @@ pub struct Served {
     pub written: u64,
     /// It asked that its blocks are flushed before it is answered.
     pub flushes: bool,
-    pub micros: u64,
 }
 
 /// What is counted of commands that were answered. A number that is past 2^64 begins anew.
@@ -128,11 +127,9 @@ impl Counts {
         }
     }
 
-    /// Counts a command.
+    /// Counts a command, but for its time.
     pub fn count(&mut self, served: &Served) {
         raise(&mut self.commands, place_of(served.operation));
-        raise(&mut self.times, bucket_of(served.micros));
-        self.micros = self.micros.wrapping_add(served.micros);
         self.read = self.read.wrapping_add(served.read);
         self.written = self.written.wrapping_add(served.written);
         match served.ended {
@@ -144,6 +141,14 @@ impl Counts {
         if served.flushes {
             self.count_flush(served.ended);
         }
+    }
+
+    /// Counts the times of so many commands, each of which took so long from its last byte to its answer.
+    pub fn take(&mut self, micros: u64, commands: u64) {
+        if let Some(count) = self.times.get_mut(bucket_of(micros)) {
+            *count = count.wrapping_add(commands);
+        }
+        self.micros = self.micros.wrapping_add(micros.wrapping_mul(commands));
     }
 
     // Counts the flush of a command that ended so.

@@ -9,10 +9,13 @@ use std::alloc::{AllocError, Global};
 use std::hint::spin_loop;
 use std::sync::atomic::{AtomicU64, Ordering};
 use std::sync::{Arc, Mutex, MutexGuard, Wait};
-use std::time::Duration;
+use std::time::{Clock, Duration};
 
 /// How often is tried to reach what readers may hold.
 const TRIES: u32 = 1000;
+
+/// For each so many commands the clock is looked at, so that a reader sees how long the one lasts that is served.
+const STRIDE: u64 = 8;
 
 /// Who a session is: its initiator port, by which path it came, its TSIH, what it is for, and since when after the beginning of 1970.
 #[derive(Drop)]
@@ -67,11 +70,28 @@ struct Meter {
     shown: Mutex<Shown>,
 }
 
-/// What a session's worker counts by.
+// What a session's worker has counted at a unit.
+#[derive(Drop)]
+struct Sheet {
+    counts: Counts,
+    // So many commands have answers that have not left yet.
+    waiting: u64,
+    // Readers do not see all of it.
+    is_ahead: bool,
+}
+
+/// What a session's worker counts by. Commands that came together and answers that leave together share a look at the clock.
 #[derive(Drop)]
 pub struct Hand {
     meter: Arc<Meter, Global>,
-    units: Vec<Counts>,
+    units: Vec<Sheet>,
+    last: Option<Operation>,
+    is_waiting: bool,
+    // How many commands have begun.
+    begun: u64,
+    // When bytes came last, and when the clock was looked at, in microseconds of the clock that never goes back.
+    came: u64,
+    now: u64,
 }
 
 // All that live, and what was counted of those that have ended, at each unit by each controller.
@@ -144,40 +164,91 @@ fn blank(alloc: Global, count: usize) -> Result<Vec<Counts>, AllocError> {
 // Adds what a session that came by a group with this tag counted at each unit to the counts of all.
 fn add_all(sums: &mut [Counts], tag: u16, units: &[Counts]) {
     for (unit, counts) in units.iter().enumerate() {
-        let place = unit
-            .saturating_mul(2)
-            .saturating_add(usize::from(tag).saturating_sub(1));
-        if let Some(sum) = sums.get_mut(place) {
-            sum.add(counts);
+        add_at(sums, tag, unit, counts);
+    }
+}
+
+// Adds what a session that came by a group with this tag counted at a unit.
+fn add_at(sums: &mut [Counts], tag: u16, unit: usize, counts: &Counts) {
+    let place = unit
+        .saturating_mul(2)
+        .saturating_add(usize::from(tag).saturating_sub(1));
+    if let Some(sum) = sums.get_mut(place) {
+        sum.add(counts);
+    }
+}
+
+// The time of the clock that never goes back, in microseconds; 1, where it cannot be read.
+fn clock(rt: &impl Clock) -> u64 {
+    micros(rt.monotonic().unwrap_or(Duration::ZERO)).max(1)
+}
+
+impl Sheet {
+    // The answers that wait leave, so long after the last byte of their commands.
+    fn settle(&mut self, took: u64) {
+        if self.waiting != 0 {
+            self.counts.take(took, self.waiting);
+            self.waiting = 0;
+            self.is_ahead = true;
         }
     }
 }
 
 impl Hand {
-    /// A command of a unit begins, at this time of the clock that never goes back.
-    pub fn begin(&self, unit: u8, now: Duration) {
-        self.meter.unit.store(u64::from(unit), Ordering::SeqCst);
-        self.meter.began.store(micros(now).max(1), Ordering::SeqCst);
+    /// Bytes have come.
+    pub fn came(&mut self, rt: &impl Clock) {
+        self.came = clock(rt);
+        self.now = self.came;
     }
 
-    /// The command has ended at this time: it was answered, or none was.
-    pub fn end(&mut self, unit: u8, served: Option<Served>, now: Duration) {
-        self.meter.began.store(0, Ordering::SeqCst);
-        let Some(served) = served else {
+    /// A command of a unit begins.
+    pub fn begin(&mut self, rt: &impl Clock, unit: u8) {
+        self.begun = self.begun.wrapping_add(1);
+        if self.begun % STRIDE == 0 {
+            self.now = clock(rt);
+        }
+        self.meter.unit.store(u64::from(unit), Ordering::Relaxed);
+        self.meter.began.store(self.now, Ordering::Relaxed);
+    }
+
+    /// The command has ended: it was answered, or none was.
+    pub fn end(&mut self, unit: u8, served: Option<Served>) {
+        self.meter.began.store(0, Ordering::Relaxed);
+        if let Some(served) = served
+            && let Some(sheet) = self.units.get_mut(usize::from(unit))
+        {
+            sheet.counts.count(&served);
+            sheet.waiting = sheet.waiting.wrapping_add(1);
+            self.last = Some(served.operation);
+            self.is_waiting = true;
+        }
+    }
+
+    /// The answers leave that were given since others left.
+    pub fn leave(&mut self, rt: &impl Clock) {
+        if !self.is_waiting {
+            return;
+        }
+        self.is_waiting = false;
+        let now = clock(rt);
+        let took = now.saturating_sub(self.came);
+        for sheet in &mut self.units {
+            sheet.settle(took);
+        }
+        self.show(now);
+    }
+
+    // Shows readers what was counted. Where one of them holds it for long, the answers that leave next show it too.
+    fn show(&mut self, now: u64) {
+        let Some(mut shown) = reach(&self.meter.shown) else {
             return;
         };
-        let place = usize::from(unit);
-        let Some(counts) = self.units.get_mut(place) else {
-            return;
-        };
-        counts.count(&served);
-        let counts = *counts;
-        // Where a reader holds it for long, the session's next command shows this one too.
-        if let Some(mut shown) = reach(&self.meter.shown) {
-            shown.last = Some(served.operation);
-            shown.ended = micros(now);
-            if let Some(there) = shown.units.get_mut(place) {
-                *there = counts;
+        shown.last = self.last;
+        shown.ended = now;
+        for (there, sheet) in shown.units.iter_mut().zip(&mut self.units) {
+            if sheet.is_ahead {
+                *there = sheet.counts;
+                sheet.is_ahead = false;
             }
         }
     }
@@ -209,8 +280,8 @@ impl Meter {
 
     // Notes for how long its command is served at its unit, where that is the longest.
     fn age(&self, now: u64, oldest: &mut [u64]) {
-        let began = self.began.load(Ordering::SeqCst);
-        let unit = self.unit.load(Ordering::SeqCst);
+        let began = self.began.load(Ordering::Relaxed);
+        let unit = self.unit.load(Ordering::Relaxed);
         if began != 0
             && let Some(longest) = oldest.get_mut(usize::try_from(unit).unwrap_or(usize::MAX))
         {
@@ -257,7 +328,14 @@ impl Meters {
             last: None,
             ended: 0,
         };
-        let units = blank(alloc, self.units)?;
+        let mut units = Vec::with_capacity(alloc, self.units)?;
+        for _ in 0..self.units {
+            units.push(Sheet {
+                counts: Counts::none(),
+                waiting: 0,
+                is_ahead: false,
+            })?;
+        }
         let mut book = self.book.lock(rt);
         let number = book.begun;
         let meter = Meter {
@@ -270,15 +348,26 @@ impl Meters {
         let meter = Arc::new(alloc, meter)?;
         book.live.push(Arc::try_clone(&meter)?)?;
         book.begun = number.wrapping_add(1);
-        Ok(Hand { meter, units })
+        Ok(Hand {
+            meter,
+            units,
+            last: None,
+            is_waiting: false,
+            begun: 0,
+            came: 0,
+            now: 0,
+        })
     }
 
     /// A session has ended.
-    pub fn leave<R: Wait>(&self, rt: &R, hand: Hand) {
-        let Hand { meter, units } = hand;
+    pub fn leave<R: Wait + Clock>(&self, rt: &R, mut hand: Hand) {
+        hand.leave(rt);
+        let Hand { meter, units, .. } = hand;
         let mut book = self.book.lock(rt);
         let book = &mut *book;
-        add_all(&mut book.ended, meter.who.path.tag, &units);
+        for (unit, sheet) in units.iter().enumerate() {
+            add_at(&mut book.ended, meter.who.path.tag, unit, &sheet.counts);
+        }
         book.live.retain(|other| other.number != meter.number);
     }
 

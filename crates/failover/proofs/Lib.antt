@@ -1,2 +1,3 @@
 mod Down
 mod Kept
+mod Up

@@ -1,7 +1,7 @@
 //! Moves of an array's units between its controllers, without a session that asks for them.
 #![tactic(auto)]
 
-ghost use Rattle.std.specs.Prelude.{◌≡◌, ◌<◌, [], length, IfOk, IfErr};
+ghost use Rattle.std.specs.Prelude.{◌≡◌, ◌<◌, [], IfOk, IfErr};
 ghost use Rattle.unit_history.specs.Calls.{HasMoved, HasStayed};
 ghost use Rattle.unit_entries.specs.Devices.{devices};
 ghost use Rattle.failover.specs.Down.{AreDown, IsStopped, down_list};
@@ -11,7 +11,7 @@ ghost use Rattle.unit_control.specs.State.{preferred};
 mod mover;
 
 use access_states::Change;
-use array_units::Units;
+use array_units::{MOST_UNITS, Units};
 use block_file::{Blocks, Opener};
 pub use mover::{GroupsList, Mover, Moves};
 use scsi_types::Group;
@@ -106,14 +106,18 @@ pub fn take_down<W: Wait, M: Moves>(
 /// Makes each unit that is chosen as it opens: the group that it prefers becomes active/optimized, the other active/non-optimized.
 /// It stops at the first unit that does not move; those before it stay moved. Nothing else is moved, as the moves that are kept
 /// show.
-pub fn bring_up<W: Wait, M: Moves>(rt: &W, units: &mut M, chosen: &[bool]) -> Result<(), NotMoved>
+pub fn bring_up<W: Wait, M: Moves>(
+    rt: &W,
+    units: &mut M,
+    chosen: &[bool; MOST_UNITS],
+) -> Result<(), NotMoved>
     requires fresh { M.moved units.old ≡ [] }
-    requires count { length chosen.now ≡ M.units units.old }
-    ensures up { IfOk result (λ done. AreUp M.made chosen.now (M.moved units.new)) }
-    ensures stopped { IfErr result (λ end. IsStoppedUp M.made end.unit end.why (M.moved units.new)) }
+    ensures up { IfOk result (λ done. AreUp M.made chosen.now (M.units units.old) (M.moved units.new)) }
+    ensures stopped { IfErr result (λ end. (end.unit < M.units units.old)
+        × IsStoppedUp M.made chosen.now end.unit end.why (M.moved units.new)) }
 {
-    for (place, is_chosen) in chosen.iter().enumerate() {
-        if *is_chosen {
+    for place in 0..units.count() {
+        if chosen[place] {
             let list = up_list(preferred(place));
             if let Err(why) = units.move_to(rt, place, &list) {
                 return Err(NotMoved { unit: place, why });

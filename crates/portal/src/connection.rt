@@ -11,8 +11,8 @@ pub trait Connection {
     /// It was told to end where its initiator is silent for so many seconds. Nothing but `limit` says so.
     ghost is_limited: { Self → ℕ → Type 0 };
 
-    /// It was told that its initiator may be silent. Nothing but `settle` says so.
-    ghost is_settled: { Self → Type 0 };
+    /// It was told that its initiator may be silent. Nothing but `end_limit` says so.
+    ghost is_unlimited: { Self → Type 0 };
 
     /// Ends the connection, from any thread: a read or a write that waits at it ends too.
     fn shut(&self);
@@ -22,8 +22,8 @@ pub trait Connection {
         ensures { is_limited self.now seconds };
 
     /// The login is over: from now on the initiator may be silent for as long as it likes.
-    fn settle(&self)
-        ensures { is_settled self.now };
+    fn end_limit(&self)
+        ensures { is_unlimited self.now };
 }
 
 impl Connection for Arc<TcpStream, Global> {
@@ -32,7 +32,7 @@ impl Connection for Arc<TcpStream, Global> {
 
     ghost is_limited = { λ c. has_limit (arc_value c) };
 
-    ghost is_settled = { λ c. has_none (arc_value c) };
+    ghost is_unlimited = { λ c. has_none (arc_value c) };
 
     fn shut(&self) {
         let _ = self.shutdown(Shutdown::Both);
@@ -44,7 +44,7 @@ impl Connection for Arc<TcpStream, Global> {
     }
 
     #[tactic(auto, using(crate::specs::Silence::no_limit_says))]
-    fn settle(&self) {
+    fn end_limit(&self) {
         let _ = self.set_read_timeout(None);
     }
 }

@@ -15,11 +15,11 @@ pub trait Gate {
     /// Whether flushes are ever left to it.
     ghost is_late: { Bool };
 
-    /// A flush is done that began when a session's pass was this. Nothing but a call of `settle` says so.
+    /// A flush is done that began when a session's pass was this. Nothing but a call of `flush_behind` says so.
     ghost lasts: { PlacedPass Entry → Type 0 };
 
     /// The command with this serial of a session is about to be submitted to the unit at this place.
-    fn pass(&self, unit: usize, serial: u64, asked: &Asked);
+    fn prefetch(&self, unit: usize, serial: u64, asked: &Asked);
 
     /// Whether it has a use for commands that wait.
     fn foresees(&self) -> bool {
@@ -30,12 +30,12 @@ pub trait Gate {
     fn foresee(&self, _unit: u8, _asked: &Asked) {}
 
     /// Whether the flushes of the commands of the unit at this place are left to it.
-    fn settles(&self, unit: usize) -> bool
+    fn flushes_behind(&self, unit: usize) -> bool
         ensures { IsTrue result → IsTrue is_late };
 
     /// Makes all last that was written to a pass's unit until now, behind a command of its session. False: this flush has failed, or
     /// one before it.
-    fn settle<P: Pass>(&self, pass: &P) -> bool
+    fn flush_behind<P: Pass>(&self, pass: &P) -> bool
         ensures { IsTrue result → lasts (P.held pass.now) };
 }
 
@@ -86,7 +86,7 @@ impl<P: Preparer, N: Disks> Gate for Prepared<P, N> {
 
     ghost lasts = { λ pass. P.has_flushed (N.disk pass.place) };
 
-    fn pass(&self, unit: usize, serial: u64, asked: &Asked) {
+    fn prefetch(&self, unit: usize, serial: u64, asked: &Asked) {
         let Some(preparer) = self.of.get(unit) else {
             return;
         };
@@ -123,14 +123,14 @@ impl<P: Preparer, N: Disks> Gate for Prepared<P, N> {
         }
     }
 
-    fn settles(&self, unit: usize) -> bool {
+    fn flushes_behind(&self, unit: usize) -> bool {
         match self.of.get(unit) {
             Some(preparer) => preparer.flushes(),
             None => false,
         }
     }
 
-    fn settle<Q: Pass>(&self, pass: &Q) -> bool {
+    fn flush_behind<Q: Pass>(&self, pass: &Q) -> bool {
         match self.of.get(pass.place()) {
             Some(preparer) => preparer.flush(),
             None => false,

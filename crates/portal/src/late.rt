@@ -49,10 +49,15 @@ pub(crate) fn without_flush(asked: &Asked) -> Option<Asked>
 
 /// What is told in place of a reply to a command without its flush: GOOD only behind a flush that began when the session's pass had
 /// seen it.
-pub(crate) fn told<G: Gate, P: Pass>(alloc: Global, gate: &G, pass: &P, reply: Reply) -> Reply
+pub(crate) fn answer_behind_flush<G: Gate, P: Pass>(
+    alloc: Global,
+    gate: &G,
+    pass: &P,
+    reply: Reply,
+) -> Reply
     ensures { IsTold (G.lasts (P.held pass.now)) reply result }
 {
-    if reply.status() != Status::Good || gate.settle(pass) {
+    if reply.status() != Status::Good || gate.flush_behind(pass) {
         return reply;
     }
     Reply::check(alloc, Sense::WRITE_ERROR)

@@ -2,7 +2,6 @@
 //! units.
 #![tactic(auto)]
 
-mod attached;
 mod connection;
 mod controllers;
 mod counted;
@@ -15,16 +14,17 @@ mod late;
 pub mod laws;
 mod live;
 mod logged_target;
+mod observer;
 mod server;
 mod sessions;
 mod stacks;
 mod target;
 mod told;
+mod unit_session;
 mod units;
 mod wire;
 mod worker;
 
-pub use attached::Attached;
 pub use connection::Connection;
 pub use controllers::Controllers;
 pub use device::TargetDevice;
@@ -33,10 +33,12 @@ pub use handles::{Handled, LAST_NUMBER, LAST_TSIH, next_tsih};
 pub use lanes::{AtDesk, Lane, start_lanes};
 pub use live::{EnterFault, LiveSession, Table};
 pub use logged_target::{LoggedTarget, Visitor};
+pub use observer::Observer;
 pub use server::{Server, Socket, Stop, accept, listen};
 pub use sessions::{Living, Sessions};
 pub use stacks::{SmallStacks, Stacks};
 pub use target::{BeginFault, SessionTarget};
+pub use unit_session::UnitSession;
 pub use units::{LogicalUnits, Pass, Unserved};
 pub use wire::{KeptSink, KeptSource, LastSent};
 pub use worker::serve_session;

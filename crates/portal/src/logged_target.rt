@@ -2,13 +2,13 @@
 ghost use Rattle.std.specs.Prelude.{◌≡◌, [], map};
 
 use crate::connection::Connection;
-use crate::counted::{begin, count, enter, leave};
 use crate::gate::Gate;
+use crate::observer::Observer;
 use crate::sessions::Sessions;
 use crate::target::{BeginFault, SessionTarget};
 use crate::told::{States, is_trouble, operation_of, reservation_in, sense_of, states_in};
 use crate::units::{LogicalUnits, Pass};
-use event_log::{By, Cause, Event, Hand, Initiator, Log, Operation, Path, Reservation};
+use event_log::{By, Cause, Event, Initiator, Log, Operation, Reservation};
 use login::Kind;
 use scsi_types::{Asked, Status};
 use session::{BeginAnswer, ResetAnswer, Target, TargetAnswer};
@@ -95,40 +95,38 @@ fn outcome_of(log: &Log, asked: &Asked, bytes: &[u8]) -> Option<Outcome> {
     })
 }
 
-// Who is a session's initiator, how it came, and the log that is told of it.
+// Who is a session's initiator, and who looks at the session.
 #[derive(Drop)]
-struct Told<'a, R: Clock> {
-    rt: &'a R,
-    log: &'a Log,
-    path: Path,
+struct Teller<'a, 'b, R: Wait + Clock> {
+    observer: &'a Observer<'b, R>,
     who: Initiator<'a>,
 }
 
-impl<R: Clock> Told<'_, R> {
+impl<R: Wait + Clock> Teller<'_, '_, R> {
     // Tells that the session has begun, where it has.
     fn tried(&self, tried: Result<u16, BeginFault>, kind: Kind) {
         if let Ok(tsih) = tried {
-            let begun = Event::LoggedIn(self.who, self.path, tsih, kind_of(kind));
-            self.log.tell(self.rt, &begun);
+            let begun = Event::LoggedIn(self.who, self.observer.path, tsih, kind_of(kind));
+            self.observer.tell(&begun);
         }
     }
 
     // Tells that it has reset a unit.
     fn reset(&self, unit: u8) {
-        self.log
-            .tell(self.rt, &Event::Reset(unit, self.who, self.path.tag));
+        let tag = self.observer.path.tag;
+        self.observer.tell(&Event::Reset(unit, self.who, tag));
     }
 
     // Tells what a command did to a unit.
     fn done(&self, unit: u8, outcome: &Outcome) {
         if let Some(reservation) = outcome.reservation {
-            let reserved = Event::Reserved(unit, reservation, self.who, self.path.tag);
-            self.log.tell(self.rt, &reserved);
+            let reserved = Event::Reserved(unit, reservation, self.who, self.observer.path.tag);
+            self.observer.tell(&reserved);
         }
         if let Some(set) = outcome.states {
             let by = By::Session(self.who);
             let set = Event::GroupsSet(unit, set.owner, set.first, set.second, by);
-            self.log.tell(self.rt, &set);
+            self.observer.tell(&set);
         }
     }
 
@@ -141,7 +139,7 @@ impl<R: Clock> Told<'_, R> {
 
     // Tells of an answer what of it is to be told.
     fn answered(&self, unit: u8, outcome: &Outcome, answer: &TargetAnswer) {
-        let tag = self.path.tag;
+        let tag = self.observer.path.tag;
         match answer {
             TargetAnswer::Replied(reply) => {
                 if reply.status() == Status::Good {
@@ -154,14 +152,12 @@ impl<R: Clock> Told<'_, R> {
                         self.who,
                         tag,
                     );
-                    self.log.tell(self.rt, &failed);
+                    self.observer.tell(&failed);
                 }
             }
             TargetAnswer::Busy => {
-                self.log.tell(
-                    self.rt,
-                    &Event::Busy(unit, outcome.operation, self.who, tag),
-                );
+                self.observer
+                    .tell(&Event::Busy(unit, outcome.operation, self.who, tag));
             }
             TargetAnswer::Outside(_) | TargetAnswer::Gone => {}
         }
@@ -181,13 +177,9 @@ pub struct LoggedTarget<
     H: Drop,
 > {
     target: SessionTarget<'a, R, U, G, S, C, P, H>,
-    rt: &'a R,
     alloc: Global,
-    log: &'a Log,
-    path: Path,
+    observer: &'a Observer<'a, R>,
     visitor: Visitor,
-    // What its commands are counted by, where they are.
-    hand: Option<Hand>,
 }
 
 impl<
@@ -217,24 +209,19 @@ impl<
     P: Pass,
     H: Drop,
 > LoggedTarget<'a, R, U, G, S, C, P, H> {
-    /// The target of a session that has not begun, which came by this path.
+    /// The target of a session that has not begun, at which somebody looks.
     pub fn new(
-        rt: &'a R,
         alloc: Global,
         target: SessionTarget<'a, R, U, G, S, C, P, H>,
-        log: &'a Log,
-        path: Path,
+        observer: &'a Observer<'a, R>,
     ) -> LoggedTarget<'a, R, U, G, S, C, P, H>
         ensures { result ≡ target.entry }
     {
         LoggedTarget {
             target,
-            rt,
             alloc,
-            log,
-            path,
+            observer,
             visitor: Visitor::nobody(alloc),
-            hand: None,
         }
     }
 
@@ -246,12 +233,10 @@ impl<
         (self.visitor, self.target.into_seen())
     }
 
-    // What of the session the log is told.
-    fn told(&self) -> Told<'_, R> {
-        Told {
-            rt: self.rt,
-            log: self.log,
-            path: self.path,
+    // Who tells the log of the session.
+    fn teller(&self) -> Teller<'_, 'a, R> {
+        Teller {
+            observer: self.observer,
             who: self.visitor.initiator(),
         }
     }
@@ -298,20 +283,12 @@ impl<
     }
 
     fn begin(&mut self, name: &[u8], isid: u64, kind: Kind) -> BeginAnswer {
-        self.visitor.meet(self.alloc, self.log, name, isid);
+        self.visitor.meet(self.alloc, self.observer.log, name, isid);
         let tried = self.target.try_begin(name, isid, kind);
         self.visitor.tried(tried);
-        self.told().tried(tried, kind);
+        self.teller().tried(tried, kind);
         let who = self.visitor.initiator();
-        self.hand = enter(
-            self.rt,
-            self.alloc,
-            self.log,
-            who,
-            self.path,
-            tried,
-            kind_of(kind),
-        );
+        self.observer.enter(self.alloc, who, tried, kind_of(kind));
         match tried {
             Ok(tsih) => BeginAnswer::Begun(tsih),
             Err(_) => BeginAnswer::Refused,
@@ -326,7 +303,7 @@ impl<
         let lives = self.target.is_live();
         self.visitor.end(lives);
         self.target.end();
-        leave(self.rt, self.log, self.hand.take());
+        self.observer.leave();
     }
 
     fn foresees(&self) -> bool {
@@ -338,18 +315,18 @@ impl<
     }
 
     fn serve(&mut self, unit: Option<u8>, asked: Asked, bytes: &[u8]) -> TargetAnswer {
-        let outcome = outcome_of(self.log, &asked, bytes);
-        let began = begin(self.rt, &self.hand, unit);
+        let outcome = outcome_of(self.observer.log, &asked, bytes);
+        self.observer.begin(unit);
         let answer = self.target.serve(unit, asked, bytes);
-        count(self.rt, &mut self.hand, unit, &asked, began, &answer);
-        self.told().served(unit, outcome, &answer);
+        self.observer.count(unit, &asked, &answer);
+        self.teller().served(unit, outcome, &answer);
         answer
     }
 
     fn reset(&mut self, unit: u8) -> ResetAnswer {
         let answer = self.target.reset(unit);
         if answer == ResetAnswer::Done {
-            self.told().reset(unit);
+            self.teller().reset(unit);
         }
         answer
     }

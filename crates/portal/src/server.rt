@@ -10,11 +10,13 @@ use crate::gate::Gate;
 use crate::keepalive::is_kept_alive;
 use crate::live::Table;
 use crate::logged_target::Visitor;
+use crate::observer::Observer;
 use crate::stacks::{STACK, Stacks};
 use crate::units::{LogicalUnits, Pass};
 use crate::wire::{KeptSink, KeptSource, LastSent};
 use crate::worker::serve_session;
 use event_log::{Event, Initiator, Log, Path, Resource, Why};
+use libc::EMFILE;
 use scsi_types::{Group, NoMemory};
 use session::{End, Identity, Watched};
 use std::alloc::{AllocError, Global};
@@ -32,10 +34,8 @@ const LOGIN_SILENCE: u64 = 30;
 /// So many milliseconds an accept loop rests where no connection could be accepted.
 const REST: u64 = 100;
 
-/// ENFILE and EMFILE, as Linux numbers them.
-const NO_FILE_OF_SYSTEM: i32 = 23;
-
-const NO_FILE: i32 = 24;
+/// The system has no descriptor more, as Linux numbers it.
+const ENFILE: i32 = 23;
 
 /// What a connection is to the table of sessions: its socket, of which it has a share.
 pub type Socket = Arc<TcpStream, Global>;
@@ -154,9 +154,9 @@ fn serve_as<R: Wait + Clock, U: LogicalUnits<P, H> + Drop, G: Gate + Drop, P: Pa
         return Err(NoMemory);
     };
     let stream: &TcpStream = socket;
-    let is_told = server.log.is_on();
-    let mut source = KeptSource::new(alloc, Watched::new(stream), is_told);
-    let mut sink = KeptSink::new(Watched::new(stream), is_told);
+    let observer = Observer::new(rt, &server.log, path);
+    let mut source = KeptSource::new(alloc, Watched::new(stream), &observer);
+    let mut sink = KeptSink::new(Watched::new(stream), &observer);
     match serve_session::<
         R,
         U,
@@ -165,8 +165,8 @@ fn serve_as<R: Wait + Clock, U: LogicalUnits<P, H> + Drop, G: Gate + Drop, P: Pa
         Socket,
         P,
         H,
-        KeptSource<Watched<&TcpStream>>,
-        KeptSink<Watched<&TcpStream>>,
+        KeptSource<'_, R, Watched<&TcpStream>>,
+        KeptSink<'_, R, Watched<&TcpStream>>,
     >(
         rt,
         alloc,
@@ -176,8 +176,7 @@ fn serve_as<R: Wait + Clock, U: LogicalUnits<P, H> + Drop, G: Gate + Drop, P: Pa
         &mut source,
         &mut sink,
         me,
-        &server.log,
-        path,
+        &observer,
     ) {
         Ok((end, visitor, _seen)) => {
             let (isid, name) = source.initiator();
@@ -275,7 +274,7 @@ fn wanting_of(started: io::Result<()>) -> Option<Resource> {
 // What was wanting where no connection was accepted: a descriptor, where the process or the system has no more of them.
 fn unaccepted(e: &io::Error) -> Resource {
     let error = e.raw_os_error().unwrap_or(0);
-    if error == NO_FILE_OF_SYSTEM || error == NO_FILE {
+    if error == ENFILE || error == EMFILE {
         Resource::Descriptor
     } else {
         Resource::Connection

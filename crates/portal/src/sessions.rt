@@ -25,7 +25,7 @@ pub trait Sessions<C: Connection> {
         kind: Kind,
         connection: C,
     ) -> Result<(u64, u16), EnterFault>
-        requires settled { C.is_settled connection }
+        requires unlimited { C.is_unlimited connection }
         ensures entered { IfOk result (λ r. says.entered (through port group) kind r.0 r.1) }
         ensures tsih { IfOk result (λ r. 0 < r.1) }
         ensures refused { IfErr result says.refused };

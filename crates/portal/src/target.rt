@@ -8,12 +8,12 @@ ghost use Rattle.portal.specs.Late.{late_of};
 ghost use Rattle.portal.specs.Target.{HasTried, IsServedAt, IsResetIn, unbegun};
 ghost use Rattle.portal.specs.declared.target.BeginFault.TheVariants as faults;
 
-use crate::attached::Attached;
 use crate::connection::Connection;
 use crate::device::{TargetDevice, Turn};
 use crate::gate::Gate;
 use crate::live::EnterFault;
 use crate::sessions::Sessions;
+use crate::unit_session::UnitSession;
 use crate::units::{LogicalUnits, Pass};
 use identity::absent;
 use login::Kind;
@@ -89,7 +89,7 @@ pub struct SessionTarget<
     // Whether the session has begun.
     begun: bool,
     // The session at each unit in order.
-    at: Vec<Attached<P>>,
+    at: Vec<UnitSession<P>>,
     // What was seen of units that it has left, or at which it was refused. There is room for the others.
     seen: Vec<H>,
 }
@@ -147,7 +147,7 @@ fn attach_to<R: Wait, U: LogicalUnits<P, H>, P: Pass, H: Drop>(
     unit: u8,
     port: &PortName,
     group: Group,
-) -> Result<Attached<P>, Option<H>>
+) -> Result<UnitSession<P>, Option<H>>
     requires { unit < U.unit_count units.now }
     ensures attached { IfOk result (IsAttachedTo U.claims U.opening (through port.now group) unit) }
     ensures full { IfErr result (λ full. IfSome full (λ s. IsFullAt U.claims U.opening (through port.now group) unit (U.seen s))) }
@@ -156,7 +156,7 @@ fn attach_to<R: Wait, U: LogicalUnits<P, H>, P: Pass, H: Drop>(
         return Err(None);
     };
     match units.attach(rt, unit, port, group) {
-        Ok(pass) => Ok(Attached::new(pass, group)),
+        Ok(pass) => Ok(UnitSession::new(pass, group)),
         Err(seen) => Err(Some(seen)),
     }
 }
@@ -165,7 +165,7 @@ fn attach_to<R: Wait, U: LogicalUnits<P, H>, P: Pass, H: Drop>(
 fn retire<R: Wait, U: LogicalUnits<P, H>, P: Pass, H: Drop>(
     rt: &R,
     units: &U,
-    attached: Attached<P>,
+    attached: UnitSession<P>,
 ) -> H
     requires { attached.place < U.unit_count units.now }
     ensures { IsOverAt U.claims U.opening attached (U.seen result) }
@@ -177,7 +177,7 @@ fn retire<R: Wait, U: LogicalUnits<P, H>, P: Pass, H: Drop>(
 fn retire_all<R: Wait, U: LogicalUnits<P, H>, P: Pass, H: Drop>(
     rt: &R,
     units: &U,
-    attached: &mut Vec<Attached<P>>,
+    attached: &mut Vec<UnitSession<P>>,
     seen: &mut Vec<H>,
 )
     requires placed { All (λ a. a.place < U.unit_count units.now) attached.old.items }
@@ -216,7 +216,7 @@ fn attach_all<R: Wait, U: LogicalUnits<P, H>, P: Pass, H: Drop>(
     units: &U,
     port: &PortName,
     group: Group,
-    attached: &mut Vec<Attached<P>>,
+    attached: &mut Vec<UnitSession<P>>,
     seen: &mut Vec<H>,
 ) -> Result<(), BeginFault>
     requires none { attached.old.items ≡ [] }
@@ -258,7 +258,7 @@ fn enter<R: Wait, S: Sessions<C>, C: Connection>(
     ensures tsih { IfOk result (λ r. 0 < r.1) }
     ensures refused { IfErr result S.says.refused }
 {
-    connection.settle();
+    connection.end_limit();
     sessions.enter(rt, port, group, kind, connection)
 }
 
@@ -280,7 +280,7 @@ fn attach_and_enter<
     port: PortName,
     group: Group,
     connection: C,
-    at: &mut Vec<Attached<P>>,
+    at: &mut Vec<UnitSession<P>>,
     seen: &mut Vec<H>,
 ) -> Result<(u64, u16), BeginFault>
     requires none { at.old.items ≡ [] }

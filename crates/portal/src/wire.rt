@@ -1,8 +1,11 @@
 //! What a session's bytes tell who runs the array: the Login Request that came first, and the PDU that went out last.
 ghost use Rattle.std.specs.Prelude.{◌≡◌, ◌<◌, length};
 
+use crate::observer::Observer;
 use session::{Failed, Sink, Source};
 use std::alloc::Global;
+use std::sync::Wait;
+use std::time::Clock;
 
 /// How many of the bytes that come first are kept.
 const FIRST: usize = 4096;
@@ -10,19 +13,24 @@ const FIRST: usize = 4096;
 /// The length of a header segment (RFC 7143, 11.2.1).
 const BHS: usize = 48;
 
-/// A source of which the first bytes are kept.
+/// A source of which the first bytes are kept, and which tells when bytes come.
 #[derive(Drop)]
-pub struct KeptSource<S> {
+pub struct KeptSource<'a, R: Wait + Clock, S> {
     inner: S,
     first: Vec<u8>,
+    observer: &'a Observer<'a, R>,
 }
 
-impl<S> KeptSource<S> {
-    /// A source, of which bytes are kept where they are wanted and there is memory.
-    pub fn new(alloc: Global, inner: S, is_wanted: bool) -> KeptSource<S> {
-        let room = if is_wanted { FIRST } else { 0 };
+impl<'a, R: Wait + Clock, S> KeptSource<'a, R, S> {
+    /// A source, of which bytes are kept where the log is on and there is memory.
+    pub fn new(alloc: Global, inner: S, observer: &'a Observer<'a, R>) -> KeptSource<'a, R, S> {
+        let room = if observer.log.is_on() { FIRST } else { 0 };
         let first = Vec::with_capacity(alloc, room).unwrap_or(Vec::new(alloc));
-        KeptSource { inner, first }
+        KeptSource {
+            inner,
+            first,
+            observer,
+        }
     }
 
     // Keeps bytes as far as there is room.
@@ -43,13 +51,14 @@ impl<S> KeptSource<S> {
     }
 }
 
-impl<S: Source> Source for KeptSource<S> {
+impl<R: Wait + Clock, S: Source> Source for KeptSource<'_, R, S> {
     ghost left = { λ h. S.left h.inner };
 
     ghost failures = { λ h. S.failures h.inner };
 
     fn read_some(&mut self, buf: &mut [u8]) -> Result<usize, Failed> {
         let count = self.inner.read_some(buf)?;
+        self.observer.came();
         self.keep(&buf[..count]);
         Ok(count)
     }
@@ -82,11 +91,11 @@ fn name_in(text: &[u8]) -> &[u8] {
     &[]
 }
 
-/// A sink of which the last PDU is kept.
+/// A sink of which the last PDU is kept, and which tells when answers leave.
 #[derive(Drop)]
-pub struct KeptSink<K> {
+pub struct KeptSink<'a, R: Wait + Clock, K> {
     inner: K,
-    is_wanted: bool,
+    observer: &'a Observer<'a, R>,
     // The header segments of the last PDU, and of the PDU that it rejects, where it does.
     last: [u8; 96],
     length: usize,
@@ -120,12 +129,12 @@ fn last_in(bytes: &[u8]) -> &[u8] {
     rest
 }
 
-impl<K> KeptSink<K> {
-    /// A sink, of which the last PDU is kept where it is wanted.
-    pub fn new(inner: K, is_wanted: bool) -> KeptSink<K> {
+impl<'a, R: Wait + Clock, K> KeptSink<'a, R, K> {
+    /// A sink, of which the last PDU is kept where the log is on.
+    pub fn new(inner: K, observer: &'a Observer<'a, R>) -> KeptSink<'a, R, K> {
         KeptSink {
             inner,
-            is_wanted,
+            observer,
             last: [0; 96],
             length: 0,
         }
@@ -158,14 +167,15 @@ impl<K> KeptSink<K> {
     }
 }
 
-impl<K: Sink> Sink for KeptSink<K> {
+impl<R: Wait + Clock, K: Sink> Sink for KeptSink<'_, R, K> {
     ghost held = { λ s. K.held s.inner };
 
     ghost failures = { λ s. K.failures s.inner };
 
     fn write_whole(&mut self, bytes: &[u8]) -> Result<(), Failed> {
+        self.observer.sends();
         let end = self.inner.write_whole(bytes);
-        if self.is_wanted && end.is_ok() {
+        if self.observer.log.is_on() && end.is_ok() {
             self.keep(bytes);
         }
         end

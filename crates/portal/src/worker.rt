@@ -10,10 +10,10 @@ use crate::connection::Connection;
 use crate::device::TargetDevice;
 use crate::gate::Gate;
 use crate::logged_target::{LoggedTarget, Visitor};
+use crate::observer::Observer;
 use crate::sessions::Sessions;
 use crate::target::SessionTarget;
 use crate::units::{LogicalUnits, Pass};
-use event_log::{Log, Path};
 use scsi_types::{Group, NoMemory};
 use session::{End, Identity, Opening, Sink, Source, serve_stream};
 use std::alloc::Global;
@@ -23,7 +23,7 @@ use std::time::Clock;
 /// Serves a session that comes by the portals of a group over a connection, from the first byte of its login to its end.
 /// Refused for want of memory, it has read and written nothing. It says how the session ended, and whose it was, and hands
 /// out what was seen of each unit as the session left it, or was refused there: of what several sessions have so seen of a unit, one
-/// history begins the other (`LogicalUnits::in_one_history`). Of what happens meanwhile the log is told. The connection has to end
+/// history begins the other (`LogicalUnits::in_one_history`). Of what happens meanwhile the log is told, and commands are counted. The connection has to end
 /// where its initiator is silent before its login is over.
 pub fn serve_session<
     R: Wait + Clock,
@@ -44,8 +44,7 @@ pub fn serve_session<
     source: &mut S,
     sink: &mut K,
     me: &Identity<'_>,
-    log: &Log,
-    path: Path,
+    observer: &Observer<'_, R>,
 ) -> Result<(End, Visitor, Vec<H>), NoMemory>
     requires silence { C.is_limited connection login_silence }
     ensures served { IfOk result (λ r. IsSession U.claims T.says (late_of G.is_late G.lasts) U.opening (U.unit_count device.now.units) group me.now
@@ -55,7 +54,7 @@ pub fn serve_session<
     ensures no_memory { OnErr result ((source.new ≡ source.old) × (sink.new ≡ sink.old)) }
 {
     let target = SessionTarget::<R, U, G, T, C, P, H>::new(rt, alloc, device, group, connection);
-    let mut target = LoggedTarget::new(rt, alloc, target, log, path);
+    let mut target = LoggedTarget::new(alloc, target, observer);
     let end = serve_stream(
         alloc,
         source,

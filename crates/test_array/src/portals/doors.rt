@@ -65,15 +65,15 @@ impl<R: Wait + Drop> Gate for Doors<R> {
 
     ghost lasts = { λ pass. Unit {0} };
 
-    fn pass(&self, unit: usize, _serial: u64, _asked: &Asked) {
+    fn prefetch(&self, unit: usize, _serial: u64, _asked: &Asked) {
         self.commands.wait_at(unit);
     }
 
-    fn settles(&self, _unit: usize) -> bool {
+    fn flushes_behind(&self, _unit: usize) -> bool {
         *self.come_to.lock(&self.rt) != Flushes::InPlace
     }
 
-    fn settle<P: Pass>(&self, pass: &P) -> bool {
+    fn flush_behind<P: Pass>(&self, pass: &P) -> bool {
         self.flushes.wait_at(pass.place());
         self.asked_for.store(pass.place(), Ordering::Relaxed);
         let mut come_to = self.come_to.lock(&self.rt);

@@ -124,14 +124,14 @@ fn each_unit_has_its_own_disk_made_ready_and_flushed(rt: HostRuntime) -> Result<
         (2, (false, true)),
         (3, (false, false)),
     ] {
-        must(&rt, gate.settles(*unit) == *settles, "settles", unit);
-        let has_settled = gate.settle(&At { place: *unit });
+        must(&rt, gate.flushes_behind(*unit) == *settles, "settles", unit);
+        let has_settled = gate.flush_behind(&At { place: *unit });
         must(&rt, has_settled == *is_done, "has settled", unit);
     }
     must(&rt, !gate.foresees(), "the gate", &"foresees");
-    gate.pass(1, 7, &read);
-    gate.pass(0, 8, &read);
-    gate.pass(3, 7, &read);
+    gate.prefetch(1, 7, &read);
+    gate.prefetch(0, 8, &read);
+    gate.prefetch(3, 7, &read);
     let mut counts = seen.iter();
     for fetched in &[0, 1, 0] {
         let disk = counts.next().expect(&rt, "a disk");

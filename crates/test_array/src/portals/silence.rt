@@ -25,7 +25,7 @@ fn a_socket_is_told_how_long_its_initiator_may_be_silent(rt: HostRuntime) {
     socket.limit(7);
     let limit = socket.read_timeout().expect(&rt, "a limit");
     must(&rt, limit == Some(Duration::from_secs(7)), "before", &limit);
-    socket.settle();
+    socket.end_limit();
     let limit = socket.read_timeout().expect(&rt, "no limit");
     must(&rt, limit.is_none(), "behind", &limit);
 }

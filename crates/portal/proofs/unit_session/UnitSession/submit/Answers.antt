@@ -11,7 +11,7 @@ use Rattle.portal.specs.Passes.{at_of}
 use Rattle.portal.specs.Submitted.{At, IsCalled, IsOnce, believed}
 use Rattle.portal.specs.Units.{Claims}
 use Rattle.portal.specs.declared.units.Unserved.{Unserved}
-use Rattle.portal.proofs.attached.Attached.submit.Goals as goal
+use Rattle.portal.proofs.unit_session.UnitSession.submit.Goals as goal
 
 -- the pass was taken out of its slot for one call, and the one that came back put into it
 once : (claims : Claims) (late : Late) (opening : ℕ → UnitState) {P : Type 0} (held : P → PlacedPass Entry) (slot after : Option P)

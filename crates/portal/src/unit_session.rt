@@ -4,7 +4,7 @@ ghost use Rattle.portal.specs.Late.{late_of};
 ghost use Rattle.portal.specs.Submitted.{IsCalled, IsOnce, IsServed, IsResetAnswer, answer_of, believed};
 
 use crate::gate::Gate;
-use crate::late::{told, without_flush};
+use crate::late::{answer_behind_flush, without_flush};
 use crate::units::{LogicalUnits, Pass, Unserved};
 use forwarding::DeskFault;
 use scsi_types::{Asked, Group, Reply};
@@ -17,13 +17,13 @@ use unit_history::Refused;
 
 /// A session that is attached to a unit, and the group that it believes to own the unit.
 #[derive(Drop)]
-pub struct Attached<P: Pass> {
+pub struct UnitSession<P: Pass> {
     // The pass; out only while a call has it.
     pass: Option<P>,
     by_group: Group,
 }
 
-impl<P: Pass> Model for Attached<P> {
+impl<P: Pass> Model for UnitSession<P> {
     ghost use Rattle.std.specs.Prelude.{IsSome, Some};
     ghost use Rattle.portal.specs.Submitted.{At};
     ghost use Rattle.portal.specs.Passes.{at_of};
@@ -88,7 +88,7 @@ fn call<R: Wait, U: LogicalUnits<P, H>, P: Pass, H: Drop, G: Gate>(
 {
     let unflushed = without_flush(asked);
     let (served, is_late) = match &unflushed {
-        Some(served) if gate.settles(pass.place()) => (served, true),
+        Some(served) if gate.flushes_behind(pass.place()) => (served, true),
         _ => (asked, false),
     };
     let (pass, end) = units.serve(rt, alloc, pass, by_group, served, bytes);
@@ -97,21 +97,21 @@ fn call<R: Wait, U: LogicalUnits<P, H>, P: Pass, H: Drop, G: Gate>(
     }
     match end {
         Ok(reply) => {
-            let reply = told(alloc, gate, &pass, reply);
+            let reply = answer_behind_flush(alloc, gate, &pass, reply);
             (pass, Ok(reply))
         }
         Err(why) => (pass, Err(why)),
     }
 }
 
-impl<P: Pass> Attached<P> {
+impl<P: Pass> UnitSession<P> {
     /// A session that was attached to a unit through this group, which it believes to own it.
-    pub fn new(pass: P, by_group: Group) -> Attached<P>
+    pub fn new(pass: P, by_group: Group) -> UnitSession<P>
         ensures place { result.place ≡ (P.held pass).place }
         ensures pass { result.pass ≡ (P.held pass).pass }
         ensures by { result.by_group ≡ by_group }
     {
-        Attached {
+        UnitSession {
             pass: Some(pass),
             by_group,
         }
@@ -144,7 +144,7 @@ impl<P: Pass> Attached<P> {
         let Some(pass) = self.pass.take() else {
             unreachable!()
         };
-        gate.pass(pass.place(), pass.next_serial(), asked);
+        gate.prefetch(pass.place(), pass.next_serial(), asked);
         let by_group = self.by_group;
         let (pass, end) = call(rt, alloc, units, gate, pass, by_group, asked, bytes);
         put_back(&mut self.pass, pass);

@@ -1,0 +1,8 @@
+use Rattle.std.specs.Prelude.{◌≡◌}
+use Rattle.failover.specs.Up.{AreUp}
+use Rattle.failover.proofs.bring_up.Given as goal
+
+abbrev pub invariant-loop-place : goal.invariant-loop-place
+invariant-loop-place g l =
+    (g.M.Moves.units l.units ≡ g.M.Moves.units l.fn.units)
+    × AreUp g.M.Moves.made l.fn.chosen l.place (g.M.Moves.moved l.units)
