@@ -1,7 +1,7 @@
 //! What administrators reach the array by, beside its console: the window and the control socket.
 
 use crate::collector::ArrayCollector;
-use crate::control::{self, Control};
+use crate::control::{self, ControlSocket};
 use crate::served::Served;
 use block_file::{Blocks, Opener};
 use command_line::{Fault, Options};
@@ -104,7 +104,7 @@ pub(crate) fn answer<
     }
     if let Some(listener) = control {
         let served = Arc::try_clone(server)?;
-        let control = Control::new(rt.clone()?, version, served);
+        let control = ControlSocket::new(rt.clone()?, version, served);
         if control::answer(rt, alloc, listener, control).is_err() {
             return Err(Fault::NoMemory);
         }

@@ -50,7 +50,7 @@ help        these lines
 ";
 
 /// The control socket's way to an array that is served.
-pub(crate) struct Control<
+pub(crate) struct ControlSocket<
     R: Wait + Clock + Drop,
     B: Blocks,
     F: Blocks,
@@ -64,7 +64,7 @@ pub(crate) struct Control<
 }
 
 impl<R: Wait + Clock + Drop, B: Blocks, F: Blocks, O: Opener<B>, N: Naming<Opened>, G: Drop> Drop
-    for Control<R, B, F, O, N, G> {
+    for ControlSocket<R, B, F, O, N, G> {
     fn drop(self) {
         let Self {
             rt: _,
@@ -122,14 +122,14 @@ impl<
     O: Opener<B>,
     N: Naming<Opened>,
     G: Drop,
-> Control<R, B, F, O, N, G> {
+> ControlSocket<R, B, F, O, N, G> {
     /// That to this array, by which this version is told.
     pub(crate) fn new(
         rt: R,
         version: &'static str,
         server: Served<B, F, O, N, G>,
-    ) -> Control<R, B, F, O, N, G> {
-        Control {
+    ) -> ControlSocket<R, B, F, O, N, G> {
+        ControlSocket {
             rt,
             version,
             server,
@@ -300,7 +300,7 @@ pub(crate) fn answer<
     rt: &R,
     alloc: Global,
     listener: UnixListener,
-    control: Control<R, B, F, O, N, G>,
+    control: ControlSocket<R, B, F, O, N, G>,
 ) -> io::Result<()> {
     let work = move || control.accept(alloc, &listener);
     let _thread: JoinHandle<()> = Builder::new().stack_size(STACK).spawn(rt, work)?;

@@ -1,6 +1,7 @@
 //! What waits behind the PDU that is served next.
 
 use iscsi_pdu::BHS_LENGTH;
+use iscsi_pdu::numbers::{cdb, lun, three};
 use scsi_types::{Lun, decode};
 use session_rules::Target;
 
@@ -9,7 +10,7 @@ const SCSI_COMMAND: u8 = 0x01;
 
 // How many bytes a PDU takes, by the segment lengths of its basic header segment (RFC 7143, 11.2.1).
 fn length_of(bhs: &[u8; BHS_LENGTH]) -> usize {
-    let segment = 65536 * usize::from(bhs[5]) + 256 * usize::from(bhs[6]) + usize::from(bhs[7]);
+    let segment = three(bhs, 5) as usize;
     BHS_LENGTH + 4 * usize::from(bhs[4]) + (segment + 3) / 4 * 4
 }
 
@@ -18,11 +19,7 @@ fn tell<T: Target>(target: &T, bhs: &[u8; BHS_LENGTH]) {
     if bhs[0] & 0x3F != SCSI_COMMAND {
         return;
     }
-    let mut lun = [0; 8];
-    lun.copy_from_slice(&bhs[8..16]);
-    let mut cdb = [0; 16];
-    cdb.copy_from_slice(&bhs[32..48]);
-    target.foresee(Lun::parse(&lun), &decode(&cdb));
+    target.foresee(Lun::parse(&lun(bhs)), &decode(&cdb(bhs)));
 }
 
 /// Tells the target of the commands that wait in these bytes, where it wants that and more than one PDU does: a command that

@@ -66,7 +66,7 @@ pub fn serve_stream<S: Source, K: Sink, T: Target>(
     let mut outbox = Outbox::new(alloc)?;
     let mut phases = Phases::new(alloc, opening, target.units(), me)?;
     let mut room = Vec::with_capacity(alloc, LONGEST_TEXT as usize)?;
-    let end = pass(
+    let end = serve_turns(
         source,
         sink,
         target,
@@ -80,7 +80,7 @@ pub fn serve_stream<S: Source, K: Sink, T: Target>(
 }
 
 // Serves a session that was opened until its end.
-fn pass<S: Source, K: Sink, T: Target>(
+fn serve_turns<S: Source, K: Sink, T: Target>(
     source: &mut S,
     sink: &mut K,
     target: &mut T,

@@ -4,7 +4,7 @@ use Rattle.session_rules.specs.Ends.{most_bytes}
 use Rattle.session_stream.specs.declared.outbox.TheConstants.{ENOUGH_TO_WRITE}
 use Rattle.session.specs.declared.inbox.TheConstants.{INBOX_CAPACITY}
 use Rattle.session.{specs.Stream.OpensWith, specs.Stream.IsFresh, proofs.Running.Running}
-use Rattle.session.proofs.stream.pass.Given as goal
+use Rattle.session.proofs.stream.serve_turns.Given as goal
 
 abbrev pub invariant-loop-reads : goal.invariant-loop-reads
 invariant-loop-reads g l = record {

@@ -3,7 +3,7 @@ use Rattle.session_stream.specs.Outbox.{OutboxValue}
 use Rattle.session.proofs.Exchanges.{stands_opened, fresh_more}
 use Rattle.session.proofs.Running.{starts, pdu_came, fault_came, turn_ends, sink_failed, flushed, more_came, input_ended}
 use Rattle.session.proofs.Running.{input_failed, taken_all}
-use Rattle.session.proofs.stream.pass.Goals as goal
+use Rattle.session.proofs.stream.serve_turns.Goals as goal
 
 pub loop-reads-init : goal.loop-reads-init
 loop-reads-init g c = record {
