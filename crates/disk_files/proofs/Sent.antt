@@ -4,6 +4,10 @@ use denote.Param.Send.{IsSend, IsSync, recorded_send, recorded_sync, struct_send
 use denote.Struct.Declared.{shape}
 use denote.Struct.Struct.{Struct}
 use Rattle.std.proofs.Crossing.{crosses}
+use Rattle.std.specs.declared.fs.File.{File}
+use Rattle.std.specs.declared.io.traits.Read.{Ghosts as Reading}
+use Rattle.std.specs.declared.io.traits.Seek.{Ghosts as Seeking}
+use Rattle.std.specs.declared.io.traits.Write.{Ghosts as Writing}
 use Rattle.disk_files.proofs.file_log.FileLog.TheSendSync.{the_send as file_log_send, the_sync as file_log_sync}
 use Rattle.disk_files.proofs.flushes.Flushes.TheSendSync.{the_sync as flushes_sync}
 use Rattle.disk_files.specs.contracts.blocks.FileBlocks.{the_row as blocks_row, the_type as blocks_type}
@@ -78,8 +82,9 @@ blocks_send F b c s = recorded_send _ _ _ (blocks_type F b c).to_one (blocks_par
 pub blocks_sync : (F : RattleType) (b : Backing F.Denot) (c : Counting F.Denot) → IsSend F → IsSync F → IsSync (blocks_row F b c)
 blocks_sync F b c s y = recorded_sync _ _ _ (blocks_type F b c).to_one (blocks_shared F b c s y)
 
-pub named_send : (R H : RattleType) → IsSend R → IsSend (named_row R H)
-named_send R H s = recorded_send _ _ _ (named_type R H).to_one (struct_send (shape (named_type R H)) (
+pub named_send : (R H : RattleType) (r : Reading File) (w : Writing File) (k : Seeking File) (h : Reading H.Denot) → IsSend R
+    → IsSend (named_row R H r w k h)
+named_send R H r w k h s = recorded_send _ _ _ (named_type R H r w k h).to_one (struct_send (shape (named_type R H r w k h)) (
   search sendable,
   (
     blocks_parts system_row backing counted system_send,
@@ -90,8 +95,9 @@ named_send R H s = recorded_send _ _ _ (named_type R H).to_one (struct_send (sha
   ),
 ))
 
-pub named_sync : (R H : RattleType) → IsSync R → IsSync (named_row R H)
-named_sync R H s = recorded_sync _ _ _ (named_type R H).to_one (struct_sync (shape (named_type R H)) (
+pub named_sync : (R H : RattleType) (r : Reading File) (w : Writing File) (k : Seeking File) (h : Reading H.Denot) → IsSync R
+    → IsSync (named_row R H r w k h)
+named_sync R H r w k h s = recorded_sync _ _ _ (named_type R H r w k h).to_one (struct_sync (shape (named_type R H r w k h)) (
   search sendable,
   (
     blocks_shared system_row backing counted system_send system_sync,

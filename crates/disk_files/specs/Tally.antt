@@ -10,6 +10,13 @@ none = record { opened = 0; failed_reads = 0; failed_writes = 0; is_lost = false
 abbrev pub all_failures : Tally → ℕ
 all_failures c = min (c.failed_reads + c.failed_writes) last_count
 
+-- the same of a device that refused so many calls beside, which count as writes that failed
+abbrev pub writes_failed_with : ℕ → Tally → ℕ
+writes_failed_with refused c = min (c.failed_writes + refused) last_count
+
+abbrev pub failures_with : ℕ → Tally → ℕ
+failures_with refused c = min (c.failed_reads + (c.failed_writes + refused)) last_count
+
 -- it was opened once more; the failures go over, and that a flush failed
 abbrev pub once_more_opened : Tally → Tally
 once_more_opened c = record c { opened = min (c.opened + 1) last_count }

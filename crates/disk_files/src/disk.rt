@@ -42,7 +42,9 @@ impl DiskLock {
     }
 
     /// The file that is locked.
-    pub(crate) fn node(&self) -> Node {
+    pub(crate) fn node(&self) -> Node
+        ensures { result ≡ self.now.node }
+    {
         self.node
     }
 }

@@ -1,8 +1,12 @@
 //! A file that has to keep its name.
-ghost use Rattle.std.specs.Prelude.{◌≡◌, ◌<◌, ◌≤◌, ◌+◌, [], false, length, min, IsErr, OnErr};
+ghost use Rattle.std.specs.Prelude.{◌≡◌, ◌<◌, ◌≤◌, ◌+◌, ◌*◌, [], false, length, min, IsErr, IfOk, OnOk, OnErr};
 ghost use Rattle.std.proofs.Common.{arith};
+ghost use Rattle.block_file.specs.declared.blocks.TheConstants.{BLOCK_LENGTH};
 ghost use Rattle.block_file.specs.Cut.{IsRun};
 ghost use Rattle.block_file.specs.Failures.{Counts, last_count};
+ghost use Rattle.disk_files.specs.Lasting.{IsSettled};
+ghost use Rattle.disk_files.specs.System.{has_read, has_written, lasts};
+ghost use Rattle.disk_files.specs.Tally.{failures_with, writes_failed_with};
 
 use crate::FileBlocks;
 use crate::file_log::number_of;
@@ -26,6 +30,7 @@ pub struct NamedBlocks<R: Files<File = File> + Drop> {
     node: Node,
     // How often a call failed since the name was not the file's.
     unnamed: u64,
+    ghost of: { blocks.file.node ≡ node },
 }
 
 impl<R: Files<File = File> + Drop> NamedBlocks<R> {
@@ -36,7 +41,10 @@ impl<R: Files<File = File> + Drop> NamedBlocks<R> {
         path: &str,
         blocks: FileBlocks<SystemFile>,
         node: Node,
-    ) -> Result<NamedBlocks<R>, AllocError> {
+    ) -> Result<NamedBlocks<R>, AllocError>
+        requires { blocks.file.node ≡ node }
+        ensures { IfOk result (λ d. d.node ≡ node) }
+    {
         Ok(NamedBlocks {
             rt,
             blocks,
@@ -78,6 +86,7 @@ impl<R: Files<File = File> + Drop> NamedBlocks<R> {
     fn refuse(&mut self) -> Result<(), DeviceFailed>
         ensures err { IsErr result }
         ensures blocks { self.new.blocks ≡ self.old.blocks }
+        ensures node { self.new.node ≡ self.old.node }
         ensures count { self.new.unnamed ≡ min (self.old.unnamed + 1) last_count }
     {
         self.unnamed = self.unnamed.saturating_add(1);
@@ -106,9 +115,9 @@ impl<R: Files<File = File> + Drop> Blocks for NamedBlocks<R> {
 
     ghost reads_failed = { λ d. min d.blocks.tally.failed_reads last_count };
 
-    ghost writes_failed = { λ d. min (d.blocks.tally.failed_writes + d.unnamed) last_count };
+    ghost writes_failed = { λ d. writes_failed_with d.unnamed d.blocks.tally };
 
-    ghost failures = { λ d. min (d.blocks.tally.failed_reads + (d.blocks.tally.failed_writes + d.unnamed)) last_count };
+    ghost failures = { λ d. failures_with d.unnamed d.blocks.tally };
 
     ghost fits = { λ d. d.blocks.fits };
 
@@ -130,18 +139,51 @@ impl<R: Files<File = File> + Drop> Blocks for NamedBlocks<R> {
         self.blocks.count()
     }
 
-    fn read_run(&mut self, first: u32, bytes: &mut [u8]) -> Result<(), DeviceFailed> {
+    fn read_run(&mut self, first: u32, bytes: &mut [u8]) -> Result<(), DeviceFailed>
+        requires { IsRun self.old.blocks.count first (length bytes.old) }
+        ensures size { self.new.blocks.count ≡ self.old.blocks.count }
+        ensures node { self.new.node ≡ self.old.node }
+        ensures said { OnOk result (has_read self.old.node (BLOCK_LENGTH * first) bytes.new) }
+        ensures failures { Counts (failures_with self.old.unnamed self.old.blocks.tally)
+            (failures_with self.new.unnamed self.new.blocks.tally) result }
+        ensures failed_reads { Counts (min self.old.blocks.tally.failed_reads last_count)
+            (min self.new.blocks.tally.failed_reads last_count) result }
+        ensures failed_writes { writes_failed_with self.new.unnamed self.new.blocks.tally
+            ≡ writes_failed_with self.old.unnamed self.old.blocks.tally }
+        ensures written { self.new.blocks.writes.count ≡ self.old.blocks.writes.count }
+    {
         self.blocks.read_run(first, bytes)
     }
 
-    fn write_run(&mut self, first: u32, bytes: &[u8]) -> Result<(), DeviceFailed> {
+    fn write_run(&mut self, first: u32, bytes: &[u8]) -> Result<(), DeviceFailed>
+        requires { IsRun self.old.blocks.count first (length bytes.now) }
+        ensures size { self.new.blocks.count ≡ self.old.blocks.count }
+        ensures node { self.new.node ≡ self.old.node }
+        ensures said { OnOk result (has_written self.old.node (BLOCK_LENGTH * first) bytes.now) }
+        ensures failures { Counts (failures_with self.old.unnamed self.old.blocks.tally)
+            (failures_with self.new.unnamed self.new.blocks.tally) result }
+        ensures failed_reads { self.new.blocks.tally.failed_reads ≡ self.old.blocks.tally.failed_reads }
+        ensures failed_writes { Counts (writes_failed_with self.old.unnamed self.old.blocks.tally)
+            (writes_failed_with self.new.unnamed self.new.blocks.tally) result }
+        ensures counted { OnOk result (self.new.blocks.writes.count ≡ min (self.old.blocks.writes.count + 1) last_count) }
+    {
         if !self.is_named() {
             return self.refuse();
         }
         self.blocks.write_run(first, bytes)
     }
 
-    fn flush(&mut self) -> Result<(), DeviceFailed> {
+    fn flush(&mut self) -> Result<(), DeviceFailed>
+        ensures size { self.new.blocks.count ≡ self.old.blocks.count }
+        ensures node { self.new.node ≡ self.old.node }
+        ensures failures { Counts (failures_with self.old.unnamed self.old.blocks.tally)
+            (failures_with self.new.unnamed self.new.blocks.tally) result }
+        ensures failed_reads { self.new.blocks.tally.failed_reads ≡ self.old.blocks.tally.failed_reads }
+        ensures failed_writes { Counts (writes_failed_with self.old.unnamed self.old.blocks.tally)
+            (writes_failed_with self.new.unnamed self.new.blocks.tally) result }
+        ensures written { self.new.blocks.writes.count ≡ self.old.blocks.writes.count }
+        ensures lasts { OnOk result (IsSettled (lasts self.old.node) self.old.blocks.writes.count) }
+    {
         self.blocks.flush()?;
         if !self.is_named() {
             return self.refuse();

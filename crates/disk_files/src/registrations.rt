@@ -1,5 +1,5 @@
 //! The registration file of a unit.
-ghost use Rattle.std.specs.Prelude.{OnOk};
+ghost use Rattle.std.specs.Prelude.{◌≡◌, IfOk, OnOk};
 ghost use Rattle.disk_files.specs.System.{name_lasts};
 
 use crate::backing::BackingFile;
@@ -75,7 +75,9 @@ fn locked<R: Files<File = File>>(
     rt: &R,
     path: &str,
     blocks: &FileBlocks<SystemFile>,
-) -> Result<DiskLock, RegistrationsFault> {
+) -> Result<DiskLock, RegistrationsFault>
+    ensures { IfOk result (λ lock. blocks.now.file.node ≡ lock.node) }
+{
     let lock = match DiskLock::take(rt, path) {
         Ok(lock) => lock,
         Err(DiskFault::InUse) => return Err(RegistrationsFault::InUse),
