@@ -5,13 +5,12 @@ ghost use Rattle.std.specs.Prelude.{◌≡◌, ◌<◌, [], IfOk, IfErr};
 ghost use Rattle.unit_history.specs.Calls.{HasMoved, HasStayed};
 ghost use Rattle.unit_entries.specs.Devices.{devices};
 ghost use Rattle.failover.specs.Down.{AreDown, IsStopped, down_list};
-ghost use Rattle.failover.specs.Up.{AreUp, IsStoppedUp, up_list};
-ghost use Rattle.unit_control.specs.State.{preferred};
 
 mod mover;
+mod up;
 
 use access_states::Change;
-use array_units::{MOST_UNITS, Units};
+use array_units::Units;
 use block_file::{Blocks, Opener};
 pub use mover::{GroupsList, Mover, Moves};
 use scsi_types::Group;
@@ -19,6 +18,7 @@ use std::sync::Wait;
 use unit_history::{LegalHistory, Opened};
 use unit_sequence::Array;
 use unit_state::MoveFault;
+pub use up::{bring_up, preferred};
 
 /// A unit did not move.
 #[derive(Clone, Copy, PartialEq, Eq)]
@@ -37,28 +37,6 @@ fn down_list(controller: Group) -> GroupsList
     match controller {
         Group::One => [0, 0, 0, 0, 0, 0, 0, 2, 3, 0, 0, 1],
         Group::Two => [0, 0, 0, 0, 0, 0, 0, 1, 3, 0, 0, 2],
-    }
-}
-
-/// The group that the unit at a place prefers: the units of even number prefer the first (SPC-4, 5.15.2.1).
-pub fn preferred(place: usize) -> Group
-    ensures { result ≡ preferred place }
-{
-    if place % 2 == 0 {
-        Group::One
-    } else {
-        Group::Two
-    }
-}
-
-/// The parameter list by which a unit that prefers this group is as it opens (SPC-4, 6.45): that group becomes active/optimized,
-/// and the other active/non-optimized.
-fn up_list(preferred: Group) -> GroupsList
-    ensures { result ≡ up_list preferred }
-{
-    match preferred {
-        Group::One => [0, 0, 0, 0, 0, 0, 0, 1, 1, 0, 0, 2],
-        Group::Two => [0, 0, 0, 0, 0, 0, 0, 2, 1, 0, 0, 1],
     }
 }
 
@@ -98,30 +76,6 @@ pub fn take_down<W: Wait, M: Moves>(
     for place in 0..units.count() {
         if let Err(why) = units.move_to(rt, place, &list) {
             return Err(NotMoved { unit: place, why });
-        }
-    }
-    Ok(())
-}
-
-/// Makes each unit that is chosen as it opens: the group that it prefers becomes active/optimized, the other active/non-optimized.
-/// It stops at the first unit that does not move; those before it stay moved. Nothing else is moved, as the moves that are kept
-/// show.
-pub fn bring_up<W: Wait, M: Moves>(
-    rt: &W,
-    units: &mut M,
-    chosen: &[bool; MOST_UNITS],
-) -> Result<(), NotMoved>
-    requires fresh { M.moved units.old ≡ [] }
-    ensures up { IfOk result (λ done. AreUp M.made chosen.now (M.units units.old) (M.moved units.new)) }
-    ensures stopped { IfErr result (λ end. (end.unit < M.units units.old)
-        × IsStoppedUp M.made chosen.now end.unit end.why (M.moved units.new)) }
-{
-    for place in 0..units.count() {
-        if chosen[place] {
-            let list = up_list(preferred(place));
-            if let Err(why) = units.move_to(rt, place, &list) {
-                return Err(NotMoved { unit: place, why });
-            }
         }
     }
     Ok(())

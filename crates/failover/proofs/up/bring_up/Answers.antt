@@ -2,8 +2,8 @@ use Rattle.std.proofs.Common.{◌≡◌, ◌∙◌, ◌+◌, List, arith, ap, su
 use Rattle.failover.specs.Down.{Move}
 use Rattle.failover.specs.Up.{AreUp}
 use Rattle.failover.proofs.Up.{few_moves, one_more_up, one_not_chosen, list_of_place}
-use Rattle.failover.proofs.bring_up.Goals as goal
-use Rattle.failover.proofs.bring_up.Goals.{then-chosen-place+in_default, else-chosen-place}
+use Rattle.failover.proofs.up.bring_up.Goals as goal
+use Rattle.failover.proofs.up.bring_up.Goals.{then-chosen-place+in_default, else-chosen-place}
 
 pub move_to-requires-clause-room : goal.move_to-requires-clause-room
 move_to-requires-clause-room g c =

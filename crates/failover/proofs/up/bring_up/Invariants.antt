@@ -1,6 +1,6 @@
 use Rattle.std.specs.Prelude.{◌≡◌}
 use Rattle.failover.specs.Up.{AreUp}
-use Rattle.failover.proofs.bring_up.Given as goal
+use Rattle.failover.proofs.up.bring_up.Given as goal
 
 abbrev pub invariant-loop-place : goal.invariant-loop-place
 invariant-loop-place g l =
