@@ -3,9 +3,17 @@
 of all. The prover has to refuse each, in the function that the edit changes. The tree stays as it is: all is done on copies.
 
 An edit a check would check each crate some ten times. So edits of a crate that change functions of different names go into one check,
-a round. An edit counts as refused there only where the prover refuses its own function for a reason of that function's own, and not
-since the function calls another one that is refused. What a round does not settle is tried again in the next, and in the end by
-itself, where any refusal of the crate counts, as in the gate. A crate that is not proved without edits fails.
+a round, which asks for these functions and what they call, and for no others. An edit counts as refused there only where the prover
+refuses its own function for a reason of that function's own, and not since the function calls another one that is refused. Where an
+edit changes a constant, the functions that name it are its own, and it has a round for itself. What no round settles is tried by itself
+in a check of the whole crate, where any refusal counts, as in the gate.
+
+A crate has to be proved without edits. Where `rt ci` has proved it of this very text on this machine, that is known (tools/kept.py). Where
+not, the functions of the edits are asked for with no edit before the rounds: one that is not proved fails the crate, and no round settles
+an edit of one that is not named as proved. Before edits are tried by themselves the whole crate is checked then, and must be proved.
+
+An edit is of lines 'file: PATH', 'old: TEXT' and 'new: TEXT', as the gate's are. A line 'in: FUNCTION' before an 'old:' says that the
+text stands once in that function of the file, where it stands elsewhere too.
 
 usage: wrong-bodies.sh [--lanes N] [CRATE..]     N checks at a time; without it, as many as processors and memory bear
 Prints a line for each edit, and at the end 'N refused, M not refused'; the status is 1 where one was not refused or not tried."""
@@ -24,104 +32,60 @@ import threading
 import time
 import types
 
+from edits import Edit, Function, asked, module_of, pattern_of
 from proved import TOP, below, needs
 
 # What a check takes at most, in bytes.
 MEMORY = 4 << 30
-# Where the prover says that a function is not proved. What only calls such a function is said to, and its own goals are not named.
+# Where the prover says that a function is proved, or not. What only calls one that is not is said to, and its own goals are not named.
+PROVED = re.compile(r"^fn (\S+): proved$", re.M)
 VERDICT = re.compile(r"^fn (\S+): (?:not proved|no proof)(.*)$", re.M)
 OWN_GOALS = re.compile(r"did not prove `|expected .*(?:Answers|Invariants|Proof)\.antt$")
+# Where the prover does not know a name that it is asked for.
+UNKNOWN = re.compile(r"error: (?:`\w+` has no function|several functions are named) `([^`]+)`")
 # What a proof says that names what the edit took away, and where it says so.
 PROOF_ERROR = re.compile(r"^(?:\./)?(proofs/\S+?):\d+:\d+: error: (.*)$", re.M)
 NAME_ALONE = re.compile(r"has no field|is not in scope|has no `|was not admitted")
 # What did not reach the prover.
 UNREAD = re.compile(r"\berror\[[\w-]+\]")
-FUNCTION = re.compile(r"\bfn (\w+)")
-
-
-class Edit:
-    """A wrong body: pairs of a text that stands once in a file, and what stands there instead."""
-
-    def __init__(self, crate, file):
-        self.crate, self.name, self.pairs = crate, os.path.basename(file).removesuffix(".edit"), []
-        path = old = None
-        with open(file, encoding="utf-8") as lines:
-            for line in lines:
-                word, _, text = line.rstrip("\n").partition(": ")
-                if word == "file":
-                    path = text
-                elif word == "old":
-                    old = text
-                elif word == "new":
-                    self.pairs.append((path, old, text))
-
-    def __str__(self):
-        return f"{self.crate}/{self.name}"
-
-    def applied(self, texts):
-        """These texts of files with the edit in them; None where a text that it replaces is not there once."""
-        texts = dict(texts)
-        for path, old, new in self.pairs:
-            if texts[path].count(old) != 1:
-                return None
-            texts[path] = texts[path].replace(old, new)
-        return texts
-
-    def functions(self, texts):
-        """The functions that the edit changes, as a file and a name each; None where it changes what is outside of one."""
-        found = set()
-        for path, old, _ in self.pairs:
-            text = texts[path]
-            at = text.find(old)
-            before = [it for it in FUNCTION.finditer(text, 0, at) if not text[text.rfind("\n", 0, it.start()) + 1 : it.start()].lstrip().startswith("//")]
-            if not path.endswith(".rt") or not before or closes(text, before[-1].start(), at) or FUNCTION.search(old):
-                return None
-            found.add((path, before[-1][1]))
-        return found
-
-
-def closes(text, start, end):
-    """Whether the item that begins at start has ended before end: a line at its own depth closes it."""
-    line = text.rfind("\n", 0, start) + 1
-    depth = re.match(r" *", text[line:]).group()
-    return re.search(rf"^{depth}\}}", text[start:end], re.M) is not None
-
-
-def module_of(crate, path):
-    """What the prover calls the functions of this file, up to their types and names."""
-    parts = path.removeprefix("src/").removesuffix(".rt").split("/")
-    return "::".join([crate, *(part for part in parts if part not in ("lib", "main", "mod"))])
 
 
 class Lane:
     """A copy of the tree in which one crate at a time is tried."""
 
     def __init__(self, top):
-        self.top = top
+        self.top, self.seconds = top, 0.0
 
-    def check(self, crate):
-        ran = subprocess.run(["rt", "check"], cwd=f"{self.top}/crates/{crate}", stdin=subprocess.DEVNULL, stdout=subprocess.PIPE,
-                             stderr=subprocess.STDOUT, text=True, errors="replace", env={**os.environ, "RT_JOBS": "1"})
-        return ran.returncode, ran.stdout
+    def check(self, crate, names=()):
+        """What a check says of a crate, or of what these names stand for and of what that calls."""
+        words = ["rt", "check", "--jobs", "1", *(f"--only={name}" for name in names)]
+        with subprocess.Popen(words, cwd=f"{self.top}/crates/{crate}", stdin=subprocess.DEVNULL, stdout=subprocess.PIPE,
+                              stderr=subprocess.STDOUT, text=True, errors="replace") as ran:
+            said = ran.stdout.read()
+            _, status, used = os.wait4(ran.pid, 0)
+            ran.returncode = os.waitstatus_to_exitcode(status)
+        self.seconds += used.ru_utime + used.ru_stime
+        return ran.returncode, said
 
-    def checked(self, crate, texts, changed):
-        """What a check of the crate says of these texts in place of its own."""
+    def checked(self, crate, texts, after, names=()):
+        """What a check of the crate says of the texts after an edit, in place of its own."""
         folder = f"{self.top}/crates/{crate}"
+        changed = [path for path in texts if after[path] != texts[path]]
         try:
             for path in changed:
                 with open(f"{folder}/{path}", "w", encoding="utf-8") as file:
-                    file.write(changed[path])
-            return self.check(crate)
+                    file.write(after[path])
+            return self.check(crate, names)
         finally:
             for path in changed:
                 with open(f"{folder}/{path}", "w", encoding="utf-8") as file:
                     file.write(texts[path])
 
 
-def of_names_alone(said, path, name):
+def of_names_alone(said, function):
     """Whether what is said against this function's proof is only that it names what the edit took away."""
-    place = "/".join(["proofs", *module_of("", path).split("::")[1:]])
-    own = [what for file, what in PROOF_ERROR.findall(said) if file.startswith(f"{place}/") and f"/{name}/" in file]
+    place = "/".join(["proofs", *filter(None, function.module.split("::"))])
+    own = [what for file, what in PROOF_ERROR.findall(said) if file.startswith(f"{place}/") and f"/{function.name}/" in file]
     return bool(own) and all(NAME_ALONE.search(what) for what in own) and "did not prove `" not in said
 
 
@@ -130,85 +94,123 @@ def refused(said):
     return [path for path, why in VERDICT.findall(said) if not why or OWN_GOALS.search(why.partition("; it calls")[0])]
 
 
-def is_refused(edit, functions, said):
-    """Whether one of the functions is refused, and not only since its proof names what the edit took away."""
-    for path, name in functions:
-        # (a closure of a function, or its part in a trait, has more behind its name)
-        named = re.compile(rf"{module_of(edit.crate, path)}::(?:.*::)?(?:fn::)?{name}(?:$|::|\+)")
-        if any(named.match(found) for found in refused(said)) and not of_names_alone(said, path, name):
-            return True
-    return False
-
-
-def rounds_of(edits, texts):
-    """Edits that go into one check each time: no two of them change functions of one name in one file, and each can be applied behind
+def rounds_of(edits, own, texts):
+    """Edits that go into one check each time: no two of them change functions of one name in one module, and each can be applied behind
     those before it. One that changes what is outside of functions is by itself."""
     rounds = []
     for edit in edits:
-        functions = edit.functions(texts)
+        inside = edit.functions(texts) is not None
+        names = {(function.module, function.name) for function in own[edit]}
         for one in rounds:
-            after = edit.applied(one.texts) if functions and one.functions and not functions & one.functions else None
+            after = edit.applied(one.texts) if inside and one.inside and not names & one.names else None
             if after:
                 one.edits.append(edit)
-                one.functions |= functions
+                one.names |= names
                 one.texts = after
                 break
         else:
-            rounds.append(types.SimpleNamespace(edits=[edit], functions=functions, texts=edit.applied(texts)))
+            rounds.append(types.SimpleNamespace(edits=[edit], inside=inside, names=names, texts=edit.applied(texts)))
     return [one.edits for one in rounds]
 
 
 class Trial:
     """All edits of one crate, and what becomes of each."""
 
-    def __init__(self, crate, lane, say):
-        self.crate, self.lane, self.say = crate, lane, say
+    def __init__(self, crate, is_proved, lane, say):
+        # (is_proved: whether the whole crate is known to be proved as it stands)
+        self.crate, self.is_proved, self.lane, self.say = crate, is_proved, lane, say
         folder = f"{TOP}/crates/{crate}/wrong-bodies"
         self.edits = [Edit(crate, f"{folder}/{name}") for name in sorted(os.listdir(folder)) if name.endswith(".edit")]
-        self.texts = {}
-        for edit in self.edits:
-            for path, _, _ in edit.pairs:
-                with open(f"{lane.top}/crates/{crate}/{path}", encoding="utf-8", newline="") as file:
-                    self.texts[path] = file.read()
+        self.texts = texts_of(f"{lane.top}/crates/{crate}", {path for edit in self.edits for path in edit.files()})
+        self.own = {edit: own_functions(edit, self.texts) for edit in self.edits}
+        # by what a check is asked for a function, and how it names that in turn
+        functions = {function for edit in self.edits for function in self.own[edit]}
+        self.names = {function: asked(function) for function in functions}
+        self.patterns = {function: pattern_of(crate, function) for function in functions}
 
     def tried(self):
         """Each edit with what came of it: refused, refused by a name alone, not refused, or not tried and why."""
-        status, said = self.lane.check(self.crate)
-        if status:
-            return {edit: f"not tried: the crate is not proved as it stands: {last_line(said)}" for edit in self.edits}
-        came, left = {}, []
-        for edit in self.edits:
-            if edit.applied(self.texts) is None:
-                came[edit] = "not tried: what it replaces is not there once"
-            else:
-                left.append(edit)
+        came = {edit: "not tried: what it replaces is not there once" for edit in self.edits if edit.applied(self.texts) is None}
+        left = [edit for edit in self.edits if edit not in came]
+        why = None if self.is_proved else self.as_it_stands({function for edit in left for function in self.own[edit]})
+        if why:
+            return came | {edit: f"not tried: the crate is not proved as it stands: {why}" for edit in left}
+        last = [edit for edit in left if not self.mine(edit)]
+        left = [edit for edit in left if self.mine(edit)]
         # a second time, since what calls a refused function may only have been passed over
         for _ in range(2):
-            left = [edit for one in rounds_of(left, self.texts) for edit in self.after_round(one, came)]
-        for edit in left:
-            came[edit] = self.alone(edit)
-        return came
+            rounds, left = rounds_of(left, self.own, self.texts), []
+            for one in rounds:
+                (left if len(one) > 1 else last).extend(self.after_round(one, came))
+        return came | self.alone(last + left)
+
+    def mine(self, edit):
+        """The edit's own functions that a round may ask for: those that are known to be proved with no edit."""
+        return [function for function in self.own[edit] if function in self.patterns]
+
+    def asked_for(self, functions, texts=None):
+        """What a check says of these functions, and of what they call, over these texts."""
+        while names := {self.names[function] for function in functions if function in self.names}:
+            status, said = self.lane.checked(self.crate, self.texts, texts or self.texts, sorted(names))
+            unknown = UNKNOWN.search(said) if status == 2 else None
+            if not unknown or unknown[1] not in names:
+                return status, said
+            self.is_unknown(unknown[1])
+        return 0, ""
+
+    def is_unknown(self, name):
+        """Has the module stand for each function that the prover does not know by this name, where there is one."""
+        for function in [function for function in self.names if self.names[function] == name]:
+            del self.names[function]
+            is_known = self.patterns.pop(function, None)
+            if is_known and function.module not in ("", name):
+                self.names[function], self.patterns[function] = function.module, pattern_of(self.crate, function, is_sure=False)
+
+    def as_it_stands(self, functions):
+        """Asks for these functions with no edit, and leaves those that are not named as proved out. Gives what is said where one is not proved."""
+        before = self.lane.seconds
+        status, said = self.asked_for(functions)
+        if status:
+            return last_line(said)
+        proved = PROVED.findall(said)
+        self.patterns = {function: it for function, it in self.patterns.items() if any(map(it.fullmatch, proved))}
+        self.say(f"{self.crate}: with no edit, {len(self.patterns)} of {len(functions)} proved, {self.lane.seconds - before:.0f} s")
+        return None
 
     def after_round(self, edits, came):
         """Tries the edits of a round in one check, and gives those that are still open."""
-        if len(edits) == 1:
-            return edits
-        began, texts = time.monotonic(), self.texts
+        texts, before = self.texts, self.lane.seconds
         for edit in edits:
             texts = edit.applied(texts)
-        status, said = self.lane.checked(self.crate, self.texts, {path: text for path, text in texts.items() if text != self.texts[path]})
-        if UNREAD.search(said):
+        status, said = self.asked_for([function for edit in edits for function in self.mine(edit)], texts)
+        if UNREAD.search(said) and len(edits) > 1:
             # one of them says nothing to the prover, and hides what it says of the others
             half = len(edits) // 2
             return self.after_round(edits[:half], came) + self.after_round(edits[half:], came)
-        still = [edit for edit in edits if status != 1 or not is_refused(edit, edit.functions(self.texts), said)]
+        still = [edit for edit in edits if status != 1 or not self.is_refused(edit, said)]
         came.update({edit: "refused" for edit in edits if edit not in still})
-        self.say(f"{self.crate}: a round of {len(edits)}, {len(edits) - len(still)} refused, {time.monotonic() - began:.0f} s")
+        self.say(f"{self.crate}: a round of {len(edits)}, {len(edits) - len(still)} refused, {self.lane.seconds - before:.0f} s")
         return still
 
-    def alone(self, edit):
-        after = edit.applied(self.texts)
-        status, said = self.lane.checked(self.crate, self.texts, {path: text for path, text in after.items() if text != self.texts[path]})
+    def is_refused(self, edit, said):
+        """Whether one of the edit's own functions is refused, and not only since its proof names what the edit took away."""
+        found = refused(said)
+        return any(any(map(self.patterns[function].match, found)) and not of_names_alone(said, function) for function in self.mine(edit))
+
+    def alone(self, edits):
+        """What comes of each of these edits by itself, in a check of the whole crate."""
+        if edits and not self.is_proved:
+            before = self.lane.seconds
+            status, said = self.lane.check(self.crate)
+            self.say(f"{self.crate}: the whole, with no edit, {self.lane.seconds - before:.0f} s")
+            if status:
+                return {edit: f"not tried: the crate is not proved as it stands: {last_line(said)}" for edit in edits}
+        return {edit: self.by_itself(edit) for edit in edits}
+
+    def by_itself(self, edit):
+        before = self.lane.seconds
+        status, said = self.lane.checked(self.crate, self.texts, edit.applied(self.texts))
+        self.say(f"{edit}: by itself, {self.lane.seconds - before:.0f} s")
         if status == 0:
             return "NOT REFUSED"
         if UNREAD.search(said) or "logic=not-proved" not in said:
@@ -218,6 +220,25 @@ class Trial:
         if errors and not is_goal and all(NAME_ALONE.search(what) for what in errors):
             return "refused, but only since a proof names what the edit took away"
         return "refused"
+
+
+def texts_of(folder, more):
+    """The texts of a crate's code, and of these files."""
+    code = {os.path.relpath(f"{at}/{name}", folder) for at, _, names in os.walk(f"{folder}/src") for name in names if name.endswith(".rt")}
+    texts = {}
+    for path in sorted(code | more):
+        with open(f"{folder}/{path}", encoding="utf-8", newline="") as file:
+            texts[path] = file.read()
+    return texts
+
+
+def own_functions(edit, texts):
+    """The functions in which an edit has to be refused: those that it changes, or that name the constant that it changes, or else all of
+    its file, as one of no name."""
+    if edit.applied(texts) is None:
+        return set()
+    modules = {module_of(path) for path in edit.files() if path.endswith(".rt")} - {""}
+    return edit.functions(texts) or edit.functions_that_name(texts) or {Function(module, "", "") for module in modules}
 
 
 def last_line(said):
@@ -271,8 +292,12 @@ def try_all(crates, room, count):
     first = f"{room}/0"
     copy_of(TOP, first)
     # what several crates stand on is proved once
-    say(f"proving what {len(crates)} crates stand on, where no check has kept it")
-    for name in (name for name in known if name in below(crates, known)):
+    under = below({name for crate in crates for name in known[crate]}, known)
+    wanted = [name for name in known if name in {*under, *crates}]
+    kept = subprocess.run([sys.executable, f"{TOP}/tools/kept.py", first, *wanted], stdout=subprocess.PIPE, text=True).stdout.split()
+    lacking = [name for name in under if name not in kept]
+    say(f"{len(kept)} of {len(wanted)} crates are known to be proved as they stand; of what others stand on, {len(lacking)} are proved now")
+    for name in (name for name in wanted if name in lacking):
         subprocess.run(["rt", "lib"], cwd=f"{first}/crates/{name}", stdout=subprocess.DEVNULL, stderr=subprocess.DEVNULL)
     lanes = queue.Queue()
     for number in range(count):
@@ -282,12 +307,14 @@ def try_all(crates, room, count):
 
     def one(crate):
         lane = lanes.get()
+        before = lane.seconds
         try:
-            came = Trial(crate, lane, say).tried()
+            came = Trial(crate, crate in kept, lane, say).tried()
         finally:
             lanes.put(lane)
         for edit, what in came.items():
             say(f"{edit}: {what}")
+        say(f"{crate}: {len(came)} edits, {list(came.values()).count('refused')} refused, {lane.seconds - before:.0f} s")
         return came
 
     with concurrent.futures.ThreadPoolExecutor(count) as pool:
