@@ -113,12 +113,12 @@ def home_of(name, texts):
 def owner_of(kind, head):
     """What the prover calls an impl, or a trait, and whether it is a type's own impl. That of a trait has the trait's name behind the type's,
     and then the types that the trait is of, where they are no parameters of the impl."""
-    parameters, head = parameters_of(head)
+    parameters, head = parameters_of(re.split(r"\bwhere\b", head)[0])
     of, is_of_a_trait, it = outside_of_brackets(head).partition(" for ")
     if kind == "trait" or not is_of_a_trait:
         return name_of(of), kind == "impl"
     arguments = parameters_of(head[head.index(name_of(of)) + len(name_of(of)) :])[0]
-    types = [name_of(one) for one in outside_of_brackets(arguments).split(",")]
+    types = re.findall(r"(?<!['\w])(?:\w+::)*(\w+)", arguments)
     return name_of(it) + name_of(of) + "".join(one for one in types if one not in names_in(parameters)), False
 
 
@@ -152,7 +152,7 @@ def names_in(parameters):
 
 def name_of(path):
     """The last name of a path, without what it is of."""
-    words = re.findall(r"\w+", path.partition("<")[0].partition(" where")[0].replace("dyn ", "").rpartition("::")[2] or path)
+    words = re.findall(r"\w+", path.partition("<")[0])
     return words[-1] if words else ""
 
 

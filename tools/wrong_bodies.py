@@ -37,7 +37,8 @@ from proved import TOP, below, needs
 
 # What a check takes at most, in bytes.
 MEMORY = 4 << 30
-# Where the prover says that a function is proved, or not. What only calls one that is not is said to, and its own goals are not named.
+# What the prover says of a function: that it is proved, or not. What only calls one that is not is said to, and its own goals are not named.
+NAMED = re.compile(r"^fn (\S+): ", re.M)
 PROVED = re.compile(r"^fn (\S+): proved$", re.M)
 VERDICT = re.compile(r"^fn (\S+): (?:not proved|no proof)(.*)$", re.M)
 OWN_GOALS = re.compile(r"did not prove `|expected .*(?:Answers|Invariants|Proof)\.antt$")
@@ -56,18 +57,25 @@ class Lane:
     def __init__(self, top):
         self.top, self.seconds = top, 0.0
 
-    def check(self, crate, names=()):
-        """What a check says of a crate, or of what these names stand for and of what that calls."""
-        words = ["rt", "check", "--jobs", "1", *(f"--only={name}" for name in names)]
+    def check(self, crate, names=(), is_enough=lambda said: False):
+        """What a check says of a crate, or of what these names stand for and of what that calls. It ends once what it said of functions is
+        enough, and then has no status: what comes behind that is help for a proof, for which the prover searches once more."""
+        words, said, has_enough = ["rt", "check", "--jobs", "1", *(f"--only={name}" for name in names)], "", False
         with subprocess.Popen(words, cwd=f"{self.top}/crates/{crate}", stdin=subprocess.DEVNULL, stdout=subprocess.PIPE,
                               stderr=subprocess.STDOUT, text=True, errors="replace") as ran:
-            said = ran.stdout.read()
+            for line in ran.stdout:
+                said += line
+                has_enough = line.startswith("fn ") and is_enough(said)
+                if has_enough:
+                    self.seconds += seconds_below(ran.pid)
+                    ran.terminate()
+                    break
             _, status, used = os.wait4(ran.pid, 0)
             ran.returncode = os.waitstatus_to_exitcode(status)
         self.seconds += used.ru_utime + used.ru_stime
-        return ran.returncode, said
+        return None if has_enough else ran.returncode, said
 
-    def checked(self, crate, texts, after, names=()):
+    def checked(self, crate, texts, after, *how):
         """What a check of the crate says of the texts after an edit, in place of its own."""
         folder = f"{self.top}/crates/{crate}"
         changed = [path for path in texts if after[path] != texts[path]]
@@ -75,11 +83,26 @@ class Lane:
             for path in changed:
                 with open(f"{folder}/{path}", "w", encoding="utf-8") as file:
                     file.write(after[path])
-            return self.check(crate, names)
+            return self.check(crate, *how)
         finally:
             for path in changed:
                 with open(f"{folder}/{path}", "w", encoding="utf-8") as file:
                     file.write(texts[path])
+
+
+def seconds_below(pid):
+    """The processor time that the commands of a process have taken until now."""
+    try:
+        with open(f"/proc/{pid}/task/{pid}/children", encoding="ascii") as file:
+            children = file.read().split()
+        ticks = 0
+        for child in children:
+            with open(f"/proc/{child}/stat", encoding="ascii", errors="replace") as file:
+                ticks += sum(map(int, file.read().rpartition(")")[2].split()[11:13]))
+    except OSError:
+        # (where the system does not tell, they are not counted)
+        return 0
+    return ticks / os.sysconf("SC_CLK_TCK")
 
 
 def of_names_alone(said, function):
@@ -148,10 +171,10 @@ class Trial:
         """The edit's own functions that a round may ask for: those that are known to be proved with no edit."""
         return [function for function in self.own[edit] if function in self.patterns]
 
-    def asked_for(self, functions, texts=None):
+    def asked_for(self, functions, texts=None, is_enough=lambda said: False):
         """What a check says of these functions, and of what they call, over these texts."""
         while names := {self.names[function] for function in functions if function in self.names}:
-            status, said = self.lane.checked(self.crate, self.texts, texts or self.texts, sorted(names))
+            status, said = self.lane.checked(self.crate, self.texts, texts or self.texts, sorted(names), is_enough)
             unknown = UNKNOWN.search(said) if status == 2 else None
             if not unknown or unknown[1] not in names:
                 return status, said
@@ -182,12 +205,13 @@ class Trial:
         texts, before = self.texts, self.lane.seconds
         for edit in edits:
             texts = edit.applied(texts)
-        status, said = self.asked_for([function for edit in edits for function in self.mine(edit)], texts)
+        functions = [function for edit in edits for function in self.mine(edit)]
+        status, said = self.asked_for(functions, texts, lambda said: all(self.is_told(edit, said) for edit in edits))
         if UNREAD.search(said) and len(edits) > 1:
             # one of them says nothing to the prover, and hides what it says of the others
             half = len(edits) // 2
             return self.after_round(edits[:half], came) + self.after_round(edits[half:], came)
-        still = [edit for edit in edits if status != 1 or not self.is_refused(edit, said)]
+        still = [edit for edit in edits if status not in (1, None) or not self.is_refused(edit, said)]
         came.update({edit: "refused" for edit in edits if edit not in still})
         self.say(f"{self.crate}: a round of {len(edits)}, {len(edits) - len(still)} refused, {self.lane.seconds - before:.0f} s")
         return still
@@ -196,6 +220,11 @@ class Trial:
         """Whether one of the edit's own functions is refused, and not only since its proof names what the edit took away."""
         found = refused(said)
         return any(any(map(self.patterns[function].match, found)) and not of_names_alone(said, function) for function in self.mine(edit))
+
+    def is_told(self, edit, said):
+        """Whether no line behind what is said can tell more of the edit: a function is named behind all that it calls."""
+        named = NAMED.findall(said)
+        return self.is_refused(edit, said) or all(it.name and any(map(self.patterns[it].fullmatch, named)) for it in self.mine(edit))
 
     def alone(self, edits):
         """What comes of each of these edits by itself, in a check of the whole crate."""
