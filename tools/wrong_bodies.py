@@ -37,9 +37,10 @@ from proved import TOP, below, needs
 
 # What a check takes at most, in bytes.
 MEMORY = 4 << 30
-# What the prover says of a function: that it is proved, or not. What only calls one that is not is said to, and its own goals are not named.
+# What the prover says of a function: that it is proved (and 'may wait', say), or not. What only calls one that is not is said to, and its
+# own goals are not named.
 NAMED = re.compile(r"^fn (\S+): ", re.M)
-PROVED = re.compile(r"^fn (\S+): proved$", re.M)
+PROVED = re.compile(r"^fn (\S+): proved(?:, .*)?$", re.M)
 VERDICT = re.compile(r"^fn (\S+): (?:not proved|no proof)(.*)$", re.M)
 OWN_GOALS = re.compile(r"did not prove `|expected .*(?:Answers|Invariants|Proof)\.antt$")
 # Where the prover does not know a name that it is asked for.
