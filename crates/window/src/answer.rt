@@ -1,11 +1,18 @@
 //! What is answered to a request.
-/// What a request asks for.
-#[derive(Clone, Copy, PartialEq, Eq)]
-pub enum Wanted {
-    Page,
+
+/// What is seen of the array, in one of its forms.
+#[derive(Clone, Copy)]
+pub enum Seen {
     Metrics,
     Status,
     Health,
+}
+
+/// What a request asks for.
+#[derive(Clone, Copy)]
+pub enum Wanted {
+    Page,
+    Seen(Seen),
     /// Nothing that there is.
     Nothing,
     /// To do what is not allowed.
@@ -19,9 +26,9 @@ pub fn asked_for(method: &str, path: &str) -> Wanted {
     }
     match path {
         "/" => Wanted::Page,
-        "/metrics" => Wanted::Metrics,
-        "/status" => Wanted::Status,
-        "/health" => Wanted::Health,
+        "/metrics" => Wanted::Seen(Seen::Metrics),
+        "/status" => Wanted::Seen(Seen::Status),
+        "/health" => Wanted::Seen(Seen::Health),
         _ => Wanted::Nothing,
     }
 }

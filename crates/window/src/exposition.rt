@@ -1,8 +1,8 @@
 //! What is measured, in lines.
 
+use crate::headings::{Heading, OF_ARRAY, OF_ROUTES, OF_UNITS, OfArray, OfRoute, OfUnit};
 use crate::line::{Amount, Label, put_help, put_sample, put_type};
-use crate::unit_metrics::{Metric, OF_ROUTES, OF_UNITS, OfRoute, OfUnit};
-use crate::view::{Commands, Route, Session, Tally, Unit, View};
+use crate::view::{Commands, Controller, Route, Session, Tally, Unit, View};
 use std::alloc::{AllocError, Global};
 
 /// The bounds of the buckets of times in seconds, as labels tell them.
@@ -17,32 +17,202 @@ const BLOCK: u64 = 512;
 /// The sense key of a COMPARE AND WRITE that found a difference (SPC-4, table 43).
 const MISCOMPARE: usize = 14;
 
-/// The text that is made, in the exposition format of Prometheus.
-#[derive(Drop)]
-struct Exposition {
-    text: String,
+// A metric begins: what it tells, and its type. Returns its name.
+fn begin(text: &mut String, heading: Heading) -> Result<&'static str, AllocError> {
+    let (name, kind, words) = heading;
+    put_help(text, name, words)?;
+    put_type(text, name, kind)?;
+    Ok(name)
 }
 
-// The label of a unit, and that of a controller.
-fn of_unit<'a>(unit: &Unit) -> Label<'a> {
+fn put(
+    text: &mut String,
+    name: &str,
+    labels: &[Label<'_>],
+    amount: Amount,
+) -> Result<(), AllocError> {
+    put_sample(text, name, labels, amount)
+}
+
+fn count(
+    text: &mut String,
+    name: &str,
+    labels: &[Label<'_>],
+    count: u64,
+) -> Result<(), AllocError> {
+    put(text, name, labels, Amount::Count(count))
+}
+
+// The version, and the target's name.
+fn build(text: &mut String, name: &str, view: &View) -> Result<(), AllocError> {
+    let version = Label::Word("version", view.version);
+    let target = Label::Name("target", view.target.as_bytes());
+    let array = Label::Number("array", view.array);
+    count(text, name, &[version, target, array], 1)
+}
+
+// Logins that were refused, by what was lacking.
+fn refused(text: &mut String, name: &str, tallies: &[Tally]) -> Result<(), AllocError> {
+    for tally in tallies {
+        count(text, name, &[Label::Word("cause", tally.what)], tally.count)?;
+    }
+    Ok(())
+}
+
+// Sessions, by their controller.
+fn sessions(text: &mut String, name: &str, controllers: &[Controller]) -> Result<(), AllocError> {
+    for controller in controllers {
+        let label = Label::Number("controller", controller.controller);
+        count(text, name, &[label], controller.sessions)?;
+    }
+    Ok(())
+}
+
+// The labels of a session.
+fn labels_of(session: &Session) -> [Label<'_>; 5] {
+    [
+        Label::Name("initiator", session.initiator.as_bytes()),
+        Label::Name("isid", session.isid.as_bytes()),
+        Label::Number("tsih", session.tsih),
+        Label::Number("controller", session.controller),
+        Label::Word("type", session.kind),
+    ]
+}
+
+// Commands of each session.
+fn of_sessions(text: &mut String, name: &str, sessions: &[Session]) -> Result<(), AllocError> {
+    for session in sessions {
+        count(text, name, &labels_of(session), session.commands)?;
+    }
+    Ok(())
+}
+
+// A metric of the array.
+fn of_array(text: &mut String, view: &View, what: OfArray) -> Result<(), AllocError> {
+    let name = begin(text, what.heading())?;
+    match what {
+        OfArray::Build => build(text, name, view),
+        OfArray::Start => count(text, name, &[], view.since),
+        OfArray::Uptime => put(text, name, &[], Amount::Micros(view.uptime_micros)),
+        OfArray::Problems => count(text, name, &[], view.problems.len() as u64),
+        OfArray::Logins => count(text, name, &[], view.logins),
+        OfArray::RefusedLogins => refused(text, name, &view.refused_logins),
+        OfArray::Sessions => sessions(text, name, &view.controllers),
+        OfArray::SessionCommands => of_sessions(text, name, &view.sessions),
+    }
+}
+
+// The labels of a unit, and of it by a controller.
+fn unit_label(unit: &Unit) -> Label<'static> {
     Label::Number("unit", unit.unit)
 }
 
-fn of_controller<'a>(route: &Route) -> Label<'a> {
+fn route_label(route: &Route) -> Label<'static> {
     Label::Number("controller", route.controller)
 }
 
-// What is measured of a unit.
-fn measured(unit: &Unit, what: OfUnit) -> Amount {
-    match what {
-        OfUnit::Owner => Amount::Count(unit.owner),
-        OfUnit::Generation => Amount::Count(unit.generation),
-        OfUnit::Registrants => Amount::Count(unit.registrants),
-        OfUnit::ReservationType => Amount::Count(unit.reservation_type),
-        OfUnit::Entries => Amount::Count(unit.entries),
-        OfUnit::Bytes => Amount::Count(BLOCK.saturating_mul(unit.blocks)),
-        OfUnit::OldestCommand => Amount::Micros(unit.oldest_command_micros),
+// The disk of a unit.
+fn disk(text: &mut String, name: &str, unit: &Unit) -> Result<(), AllocError> {
+    let disk = Label::Name("disk", unit.disk.as_bytes());
+    count(text, name, &[unit_label(unit), disk], 1)
+}
+
+// The calls of a file of a unit that failed.
+fn failures(
+    text: &mut String,
+    name: &str,
+    unit: &Unit,
+    file: &str,
+    failures: &[Tally],
+) -> Result<(), AllocError> {
+    for tally in failures {
+        let labels = &[
+            unit_label(unit),
+            Label::Word("file", file),
+            Label::Word("call", tally.what),
+        ];
+        count(text, name, labels, tally.count)?;
     }
+    Ok(())
+}
+
+// Those of both.
+fn all_failures(text: &mut String, name: &str, unit: &Unit) -> Result<(), AllocError> {
+    failures(text, name, unit, "disk", &unit.disk_failures)?;
+    failures(
+        text,
+        name,
+        unit,
+        "registrations",
+        &unit.registration_failures,
+    )
+}
+
+// What may be wrong with a unit.
+fn troubles(text: &mut String, name: &str, unit: &Unit) -> Result<(), AllocError> {
+    for tally in &unit.troubles {
+        let labels = &[unit_label(unit), Label::Word("trouble", tally.what)];
+        count(text, name, labels, tally.count)?;
+    }
+    Ok(())
+}
+
+// A count of a unit.
+fn of_one(text: &mut String, name: &str, unit: &Unit, number: u64) -> Result<(), AllocError> {
+    count(text, name, &[unit_label(unit)], number)
+}
+
+// A time of a unit, in microseconds.
+fn time(text: &mut String, name: &str, unit: &Unit, micros: u64) -> Result<(), AllocError> {
+    put(text, name, &[unit_label(unit)], Amount::Micros(micros))
+}
+
+// What is measured of a unit.
+fn of_unit(text: &mut String, name: &str, unit: &Unit, what: OfUnit) -> Result<(), AllocError> {
+    match what {
+        OfUnit::Owner => of_one(text, name, unit, unit.owner),
+        OfUnit::Generation => of_one(text, name, unit, unit.generation),
+        OfUnit::Registrants => of_one(text, name, unit, unit.registrants),
+        OfUnit::ReservationType => of_one(text, name, unit, unit.reservation_type),
+        OfUnit::Entries => of_one(text, name, unit, unit.entries),
+        OfUnit::Bytes => of_one(text, name, unit, BLOCK.saturating_mul(unit.blocks)),
+        OfUnit::OldestCommand => time(text, name, unit, unit.oldest_command_micros),
+        OfUnit::Disk => disk(text, name, unit),
+        OfUnit::Failures => all_failures(text, name, unit),
+        OfUnit::Troubles => troubles(text, name, unit),
+    }
+}
+
+// A metric of each unit.
+fn of_units(text: &mut String, units: &[Unit], what: OfUnit) -> Result<(), AllocError> {
+    let name = begin(text, what.heading())?;
+    for unit in units {
+        of_unit(text, name, unit, what)?;
+    }
+    Ok(())
+}
+
+// A count of a unit by a controller, and one with a label more.
+fn of_both(
+    text: &mut String,
+    name: &str,
+    unit: &Unit,
+    route: &Route,
+    number: u64,
+) -> Result<(), AllocError> {
+    count(text, name, &[unit_label(unit), route_label(route)], number)
+}
+
+fn of_three(
+    text: &mut String,
+    name: &str,
+    unit: &Unit,
+    route: &Route,
+    label: Label<'_>,
+    number: u64,
+) -> Result<(), AllocError> {
+    let labels = &[unit_label(unit), route_label(route), label];
+    count(text, name, labels, number)
 }
 
 // How many commands ended with CHECK CONDITION and this sense key.
@@ -62,322 +232,147 @@ fn all_checks(commands: &Commands) -> u64 {
     all
 }
 
-// What is measured of a unit by a controller.
-fn measured_of_route(route: &Route, what: OfRoute) -> u64 {
-    match what {
-        OfRoute::State => route.state,
-        OfRoute::Read => route.commands.read_bytes,
-        OfRoute::Written => route.commands.written_bytes,
-        OfRoute::Conflicts => route.commands.reservation_conflicts,
-        OfRoute::Busy => route.commands.busy,
-        OfRoute::Miscompares => checks(&route.commands, MISCOMPARE),
-        OfRoute::Flushes => route.commands.flushes,
-        OfRoute::FailedFlushes => route.commands.failed_flushes,
+// The commands of a unit by a controller, by their operations.
+fn operations(text: &mut String, name: &str, unit: &Unit, route: &Route) -> Result<(), AllocError> {
+    for tally in &route.commands.operations {
+        let label = Label::Word("operation", tally.what);
+        of_three(text, name, unit, route, label, tally.count)?;
     }
+    Ok(())
 }
 
-impl Exposition {
-    // A metric begins: its name, its type, and what it tells.
-    fn metric(&mut self, name: &str, kind: &str, words: &str) -> Result<(), AllocError> {
-        put_help(&mut self.text, name, words)?;
-        put_type(&mut self.text, name, kind)
-    }
-
-    fn put(&mut self, name: &str, labels: &[Label<'_>], amount: Amount) -> Result<(), AllocError> {
-        put_sample(&mut self.text, name, labels, amount)
-    }
-
-    fn count(&mut self, name: &str, labels: &[Label<'_>], count: u64) -> Result<(), AllocError> {
-        self.put(name, labels, Amount::Count(count))
-    }
-
-    // The array.
-    fn of_array(&mut self, view: &View) -> Result<(), AllocError> {
-        self.metric(
-            "arrayd_build_info",
-            "gauge",
-            "The version of the program, and the target's name.",
-        )?;
-        let version = Label::Word("version", view.version);
-        let target = Label::Name("target", view.target.as_bytes());
-        let array = Label::Number("array", view.array);
-        self.count("arrayd_build_info", &[version, target, array], 1)?;
-        let start = "arrayd_start_time_seconds";
-        self.metric(
-            start,
-            "gauge",
-            "Since when after the beginning of 1970 the array is served.",
-        )?;
-        self.count(start, &[], view.since)?;
-        let uptime = "arrayd_uptime_seconds";
-        self.metric(uptime, "gauge", "For how long the array is served.")?;
-        self.put(uptime, &[], Amount::Micros(view.uptime_micros))?;
-        let problems = "arrayd_problems";
-        self.metric(
-            problems,
-            "gauge",
-            "How many things are wrong; /health tells them.",
-        )?;
-        self.count(problems, &[], view.problems.len() as u64)
-    }
-
-    // Logins and sessions.
-    fn of_logins(&mut self, view: &View) -> Result<(), AllocError> {
-        self.metric("arrayd_logins_total", "counter", "Logins that were done.")?;
-        self.count("arrayd_logins_total", &[], view.logins)?;
-        let refused = "arrayd_refused_logins_total";
-        self.metric(
-            refused,
-            "counter",
-            "Logins that were refused, by what was lacking.",
-        )?;
-        for tally in &view.refused_logins {
-            self.count(refused, &[Label::Word("cause", tally.what)], tally.count)?;
-        }
-        self.metric("arrayd_sessions", "gauge", "Sessions that are logged in.")?;
-        for controller in &view.controllers {
-            let label = Label::Number("controller", controller.controller);
-            self.count("arrayd_sessions", &[label], controller.sessions)?;
-        }
-        let commands = "arrayd_session_commands_total";
-        self.metric(
-            commands,
-            "counter",
-            "Commands of a session that is logged in.",
-        )?;
-        for session in &view.sessions {
-            self.count(commands, &of_session(session), session.commands)?;
-        }
-        Ok(())
-    }
-
-    // A metric of each unit.
-    fn of_units(&mut self, units: &[Unit], metric: Metric<OfUnit>) -> Result<(), AllocError> {
-        let (what, name, kind, words) = metric;
-        self.metric(name, kind, words)?;
-        for unit in units {
-            self.put(name, &[of_unit(unit)], measured(unit, what))?;
-        }
-        Ok(())
-    }
-
-    // A metric of each unit by each controller.
-    fn of_routes(&mut self, units: &[Unit], metric: Metric<OfRoute>) -> Result<(), AllocError> {
-        let (what, name, kind, words) = metric;
-        self.metric(name, kind, words)?;
-        for unit in units {
-            for route in &unit.paths {
-                let labels = &[of_unit(unit), of_controller(route)];
-                self.count(name, labels, measured_of_route(route, what))?;
-            }
-        }
-        Ok(())
-    }
-
-    // The files of each unit.
-    fn of_files(&mut self, units: &[Unit]) -> Result<(), AllocError> {
-        self.metric("arrayd_unit_info", "gauge", "The disk of the unit.")?;
-        for unit in units {
-            let disk = Label::Name("disk", unit.disk.as_bytes());
-            let number = Label::Number("unit", unit.unit);
-            self.count("arrayd_unit_info", &[number, disk], 1)?;
-        }
-        let failures = "arrayd_device_failures_total";
-        self.metric(
-            failures,
-            "counter",
-            "Calls of the system that failed, by the file and the call.",
-        )?;
-        for unit in units {
-            self.failures(unit, "disk", &unit.disk_failures)?;
-            self.failures(unit, "registrations", &unit.registration_failures)?;
-        }
-        Ok(())
-    }
-
-    // What may be wrong with each unit.
-    fn of_troubles(&mut self, units: &[Unit]) -> Result<(), AllocError> {
-        let name = "arrayd_unit_trouble";
-        self.metric(
-            name,
-            "gauge",
-            "1 where this is so of the unit or of its disk, else 0.",
-        )?;
-        for unit in units {
-            for tally in &unit.troubles {
-                let labels = &[of_unit(unit), Label::Word("trouble", tally.what)];
-                self.count(name, labels, tally.count)?;
-            }
-        }
-        Ok(())
-    }
-
-    // The calls of a file of a unit that failed.
-    fn failures(&mut self, unit: &Unit, file: &str, failures: &[Tally]) -> Result<(), AllocError> {
-        for tally in failures {
-            let number = Label::Number("unit", unit.unit);
-            let call = Label::Word("call", tally.what);
-            let labels = &[number, Label::Word("file", file), call];
-            self.count("arrayd_device_failures_total", labels, tally.count)?;
-        }
-        Ok(())
-    }
-
-    // The commands of each unit by each controller, by their operations.
-    fn of_operations(&mut self, units: &[Unit]) -> Result<(), AllocError> {
-        let name = "arrayd_commands_total";
-        self.metric(
-            name,
-            "counter",
-            "Commands that were answered, by what they asked for.",
-        )?;
-        for unit in units {
-            for route in &unit.paths {
-                for tally in &route.commands.operations {
-                    let labels = &[
-                        of_unit(unit),
-                        of_controller(route),
-                        Label::Word("operation", tally.what),
-                    ];
-                    self.count(name, labels, tally.count)?;
-                }
-            }
-        }
-        Ok(())
-    }
-
-    // The same by the status with which they ended.
-    fn of_statuses(&mut self, units: &[Unit]) -> Result<(), AllocError> {
-        let name = "arrayd_ended_commands_total";
-        self.metric(
-            name,
-            "counter",
-            "Commands that were answered, by the status of SAM-5 with which they ended.",
-        )?;
-        for unit in units {
-            for route in &unit.paths {
-                self.statuses(name, unit, route)?;
-            }
-        }
-        Ok(())
-    }
-
-    // Those of a unit by a controller.
-    fn statuses(&mut self, name: &str, unit: &Unit, route: &Route) -> Result<(), AllocError> {
-        let commands = &route.commands;
-        let checks = all_checks(commands);
-        let ends = &[
-            ("good", commands.good),
-            ("check_condition", checks),
-            ("reservation_conflict", commands.reservation_conflicts),
-            ("busy", commands.busy),
-        ];
-        for (status, count) in ends {
-            let labels = &[
-                of_unit(unit),
-                of_controller(route),
-                Label::Word("status", *status),
-            ];
-            self.count(name, labels, *count)?;
-        }
-        Ok(())
-    }
-
-    // The same by the sense key with which they ended, where they ended with CHECK CONDITION.
-    fn of_keys(&mut self, units: &[Unit]) -> Result<(), AllocError> {
-        let name = "arrayd_check_conditions_total";
-        self.metric(
-            name,
-            "counter",
-            "Commands that ended with CHECK CONDITION, by their sense key.",
-        )?;
-        for unit in units {
-            for route in &unit.paths {
-                for (key, count) in route.commands.sense_keys.iter().enumerate() {
-                    let labels = &[
-                        of_unit(unit),
-                        of_controller(route),
-                        Label::Hex("sense_key", key as u64),
-                    ];
-                    self.count(name, labels, *count)?;
-                }
-            }
-        }
-        Ok(())
-    }
-
-    // The times that commands took.
-    fn of_times(&mut self, units: &[Unit]) -> Result<(), AllocError> {
-        let name = "arrayd_command_duration_seconds";
-        self.metric(
-            name,
-            "histogram",
-            "The time from a command's last byte to its answer.",
-        )?;
-        for unit in units {
-            for route in &unit.paths {
-                self.times(unit, route)?;
-            }
-        }
-        Ok(())
-    }
-
-    // Those of a unit by a controller.
-    fn times(&mut self, unit: &Unit, route: &Route) -> Result<(), AllocError> {
-        let bucket = "arrayd_command_duration_seconds_bucket";
-        let mut all = 0u64;
-        for (place, count) in route.commands.buckets.iter().enumerate() {
-            all = all.wrapping_add(*count);
-            let bound = match BOUND_TEXTS.get(place) {
-                Some(bound) => *bound,
-                None => "+Inf",
-            };
-            self.count(
-                bucket,
-                &[
-                    of_unit(unit),
-                    of_controller(route),
-                    Label::Word("le", bound),
-                ],
-                all,
-            )?;
-        }
-        let labels = &[of_unit(unit), of_controller(route)];
-        let sum = Amount::Micros(route.commands.micros);
-        self.put("arrayd_command_duration_seconds_sum", labels, sum)?;
-        self.count("arrayd_command_duration_seconds_count", labels, all)
-    }
-}
-
-// The labels of a session.
-fn of_session(session: &Session) -> [Label<'_>; 5] {
+// Commands by the status with which they ended.
+fn ends(commands: &Commands) -> [(&'static str, u64); 4] {
     [
-        Label::Name("initiator", session.initiator.as_bytes()),
-        Label::Name("isid", session.isid.as_bytes()),
-        Label::Number("tsih", session.tsih),
-        Label::Number("controller", session.controller),
-        Label::Word("type", session.kind),
+        ("good", commands.good),
+        ("check_condition", all_checks(commands)),
+        ("reservation_conflict", commands.reservation_conflicts),
+        ("busy", commands.busy),
     ]
+}
+
+// Those of a unit by a controller.
+fn statuses(text: &mut String, name: &str, unit: &Unit, route: &Route) -> Result<(), AllocError> {
+    for (status, count) in &ends(&route.commands) {
+        let label = Label::Word("status", *status);
+        of_three(text, name, unit, route, label, *count)?;
+    }
+    Ok(())
+}
+
+// Those that ended with CHECK CONDITION, by their sense key.
+fn keys(text: &mut String, name: &str, unit: &Unit, route: &Route) -> Result<(), AllocError> {
+    for (key, count) in route.commands.sense_keys.iter().enumerate() {
+        let label = Label::Hex("sense_key", key as u64);
+        of_three(text, name, unit, route, label, *count)?;
+    }
+    Ok(())
+}
+
+// The bound of a bucket of times.
+fn bound_text(place: usize) -> &'static str {
+    match BOUND_TEXTS.get(place) {
+        Some(bound) => *bound,
+        None => "+Inf",
+    }
+}
+
+// The buckets of the times that commands of a unit took by a controller; returns how many commands there were.
+fn buckets(text: &mut String, unit: &Unit, route: &Route) -> Result<u64, AllocError> {
+    let mut all = 0u64;
+    for (place, count) in route.commands.buckets.iter().enumerate() {
+        all = all.wrapping_add(*count);
+        let label = Label::Word("le", bound_text(place));
+        of_three(
+            text,
+            "arrayd_command_duration_seconds_bucket",
+            unit,
+            route,
+            label,
+            all,
+        )?;
+    }
+    Ok(all)
+}
+
+// These times.
+fn times(text: &mut String, unit: &Unit, route: &Route) -> Result<(), AllocError> {
+    let all = buckets(text, unit, route)?;
+    let labels = &[unit_label(unit), route_label(route)];
+    let sum = Amount::Micros(route.commands.micros);
+    put(text, "arrayd_command_duration_seconds_sum", labels, sum)?;
+    count(text, "arrayd_command_duration_seconds_count", labels, all)
+}
+
+// What is measured of a unit by a controller.
+fn of_route(
+    text: &mut String,
+    name: &str,
+    unit: &Unit,
+    route: &Route,
+    what: OfRoute,
+) -> Result<(), AllocError> {
+    let commands = &route.commands;
+    match what {
+        OfRoute::State => of_both(text, name, unit, route, route.state),
+        OfRoute::Read => of_both(text, name, unit, route, commands.read_bytes),
+        OfRoute::Written => of_both(text, name, unit, route, commands.written_bytes),
+        OfRoute::Conflicts => of_both(text, name, unit, route, commands.reservation_conflicts),
+        OfRoute::Busy => of_both(text, name, unit, route, commands.busy),
+        OfRoute::Miscompares => of_both(text, name, unit, route, checks(commands, MISCOMPARE)),
+        OfRoute::Flushes => of_both(text, name, unit, route, commands.flushes),
+        OfRoute::FailedFlushes => of_both(text, name, unit, route, commands.failed_flushes),
+        OfRoute::Operations => operations(text, name, unit, route),
+        OfRoute::Statuses => statuses(text, name, unit, route),
+        OfRoute::SenseKeys => keys(text, name, unit, route),
+        OfRoute::Times => times(text, unit, route),
+    }
+}
+
+// A metric of a unit by each controller.
+fn of_paths(text: &mut String, name: &str, unit: &Unit, what: OfRoute) -> Result<(), AllocError> {
+    for route in &unit.paths {
+        of_route(text, name, unit, route, what)?;
+    }
+    Ok(())
+}
+
+// A metric of each unit by each controller.
+fn of_routes(text: &mut String, units: &[Unit], what: OfRoute) -> Result<(), AllocError> {
+    let name = begin(text, what.heading())?;
+    for unit in units {
+        of_paths(text, name, unit, what)?;
+    }
+    Ok(())
+}
+
+// All metrics of units, and all of units by controllers.
+fn all_of_units(text: &mut String, units: &[Unit]) -> Result<(), AllocError> {
+    for what in &OF_UNITS {
+        of_units(text, units, *what)?;
+    }
+    Ok(())
+}
+
+fn all_of_routes(text: &mut String, units: &[Unit]) -> Result<(), AllocError> {
+    for what in &OF_ROUTES {
+        of_routes(text, units, *what)?;
+    }
+    Ok(())
+}
+
+// Everything.
+fn all(text: &mut String, view: &View) -> Result<(), AllocError> {
+    for what in &OF_ARRAY {
+        of_array(text, view, *what)?;
+    }
+    all_of_units(text, &view.units)?;
+    all_of_routes(text, &view.units)
 }
 
 /// What is measured of an array, in lines.
 pub fn metrics(alloc: Global, view: &View) -> Result<String, AllocError> {
-    let mut lines = Exposition {
-        text: String::new(alloc),
-    };
-    lines.of_array(view)?;
-    lines.of_logins(view)?;
-    for metric in &OF_UNITS {
-        lines.of_units(&view.units, *metric)?;
-    }
-    lines.of_files(&view.units)?;
-    lines.of_troubles(&view.units)?;
-    for metric in &OF_ROUTES {
-        lines.of_routes(&view.units, *metric)?;
-    }
-    lines.of_operations(&view.units)?;
-    lines.of_statuses(&view.units)?;
-    lines.of_keys(&view.units)?;
-    lines.of_times(&view.units)?;
-    Ok(lines.text)
+    let mut text = String::new(alloc);
+    all(&mut text, view)?;
+    Ok(text)
 }

@@ -1,12 +1,13 @@
 //! What answers the requests of a connection.
 
-use crate::answer::{Wanted, asked_for};
+use crate::answer::{Seen, Wanted, asked_for};
+use crate::as_json::status;
 use crate::exposition::metrics;
 use crate::html::PAGE;
 use crate::troubles::health;
 use crate::view::View;
 use bytes::{BufMut, Bytes};
-use http::{HeaderValue, Request, StatusCode, header};
+use http::{HeaderName, HeaderValue, Request, StatusCode, header};
 use http_server::{Response, Service};
 use std::alloc::{AllocError, Global};
 
@@ -32,6 +33,14 @@ fn measured() -> HeaderValue {
     HeaderValue::from_static("text/plain; version=0.0.4; charset=utf-8")
 }
 
+fn json() -> HeaderValue {
+    HeaderValue::from_static("application/json")
+}
+
+fn page_kind() -> HeaderValue {
+    HeaderValue::from_static("text/html; charset=utf-8")
+}
+
 // What the page may do: run what stands in it, and ask where it came from.
 fn policy() -> HeaderValue {
     HeaderValue::from_static(
@@ -39,25 +48,72 @@ fn policy() -> HeaderValue {
     )
 }
 
+// Calls of the library, each by one that promises nothing: what these promise would be a part of each proof below.
+fn add(response: &mut Response, name: HeaderName, value: HeaderValue) -> Result<(), AllocError> {
+    response.add_header(name, value)
+}
+
+fn put_body(response: &mut Response, body: Bytes) -> Result<(), AllocError> {
+    response.body.push(body)
+}
+
+fn put_text(response: &mut Response, text: &[u8]) -> Result<(), AllocError> {
+    response.body.put_slice(text)
+}
+
 // Gives an answer its body.
 fn fill(response: &mut Response, kind: HeaderValue, body: Vec<u8>) -> Result<(), AllocError> {
-    response.add_header(header::CONTENT_TYPE, kind)?;
-    response.body.push(Bytes::from_vec(body)?)
+    add(response, header::CONTENT_TYPE, kind)?;
+    put_body(response, Bytes::from_vec(body)?)
 }
 
 // A short answer.
 fn say(response: &mut Response, status: StatusCode, text: &[u8]) -> Result<(), AllocError> {
     response.status = status;
-    response.add_header(header::CONTENT_TYPE, plain())?;
-    response.body.put_slice(text)
+    add(response, header::CONTENT_TYPE, plain())?;
+    put_text(response, text)
 }
 
-// What is seen, as JSON.
-fn status_text(alloc: Global, view: &View) -> Result<Vec<u8>, AllocError> {
-    match serde_json::to_vec(alloc, view) {
-        Ok(text) => Ok(text),
-        Err(_) => Err(AllocError),
+// What is measured.
+fn tell_metrics(alloc: Global, view: &View, response: &mut Response) -> Result<(), AllocError> {
+    let text = metrics(alloc, view)?;
+    fill(response, measured(), text.into_bytes())
+}
+
+// What is seen.
+fn tell_status(alloc: Global, view: &View, response: &mut Response) -> Result<(), AllocError> {
+    let text = status(alloc, view)?;
+    fill(response, json(), text)
+}
+
+// What is wrong.
+fn tell_health(alloc: Global, view: &View, response: &mut Response) -> Result<(), AllocError> {
+    if !view.problems.is_empty() {
+        response.status = StatusCode::SERVICE_UNAVAILABLE;
     }
+    let text = health(alloc, view)?;
+    fill(response, plain(), text.into_bytes())
+}
+
+// The page.
+fn tell_page(response: &mut Response) -> Result<(), AllocError> {
+    add(response, header::CONTENT_TYPE, page_kind())?;
+    add(response, header::CONTENT_SECURITY_POLICY, policy())?;
+    put_body(response, page())
+}
+
+fn page() -> Bytes {
+    Bytes::from_static(PAGE.as_bytes())
+}
+
+fn get_alone() -> HeaderValue {
+    HeaderValue::from_static("GET")
+}
+
+// That nothing can be done here.
+fn refuse(response: &mut Response) -> Result<(), AllocError> {
+    add(response, header::ALLOW, get_alone())?;
+    say(response, StatusCode::METHOD_NOT_ALLOWED, b"only GET\n")
 }
 
 impl<'a, S: Collector> Handler<'a, S> {
@@ -66,45 +122,44 @@ impl<'a, S: Collector> Handler<'a, S> {
         Handler { alloc, collector }
     }
 
-    // Answers what is asked.
-    fn tell(&self, wanted: Wanted, response: &mut Response) -> Result<(), AllocError> {
-        let alloc = self.alloc;
-        match wanted {
-            Wanted::Metrics => {
-                let view = self.collector.collect(alloc)?;
-                let text = metrics(alloc, &view)?;
-                fill(response, measured(), text.into_bytes())
-            }
-            Wanted::Status => {
-                let view = self.collector.collect(alloc)?;
-                fill(
-                    response,
-                    HeaderValue::from_static("application/json"),
-                    status_text(alloc, &view)?,
-                )
-            }
-            Wanted::Health => {
-                let view = self.collector.collect(alloc)?;
-                if !view.problems.is_empty() {
-                    response.status = StatusCode::SERVICE_UNAVAILABLE;
-                }
-                fill(response, plain(), health(alloc, &view)?.into_bytes())
-            }
-            Wanted::Page => {
-                response.add_header(
-                    header::CONTENT_TYPE,
-                    HeaderValue::from_static("text/html; charset=utf-8"),
-                )?;
-                response.add_header(header::CONTENT_SECURITY_POLICY, policy())?;
-                response.body.push(Bytes::from_static(PAGE.as_bytes()))
-            }
-            Wanted::Nothing => say(response, StatusCode::NOT_FOUND, b"not found\n"),
-            Wanted::Deed => {
-                response.add_header(header::ALLOW, HeaderValue::from_static("GET"))?;
-                say(response, StatusCode::METHOD_NOT_ALLOWED, b"only GET\n")
-            }
+    // Answers by what is seen now.
+    fn show(&self, seen: Seen, response: &mut Response) -> Result<(), AllocError> {
+        let view = self.collector.collect(self.alloc)?;
+        match seen {
+            Seen::Metrics => tell_metrics(self.alloc, &view, response),
+            Seen::Status => tell_status(self.alloc, &view, response),
+            Seen::Health => tell_health(self.alloc, &view, response),
         }
     }
+
+    // Answers what is asked.
+    fn tell(&self, wanted: Wanted, response: &mut Response) -> Result<(), AllocError> {
+        match wanted {
+            Wanted::Page => tell_page(response),
+            Wanted::Seen(seen) => self.show(seen, response),
+            Wanted::Nothing => say(response, StatusCode::NOT_FOUND, b"not found\n"),
+            Wanted::Deed => refuse(response),
+        }
+    }
+}
+
+fn close() -> HeaderValue {
+    HeaderValue::from_static("close")
+}
+
+fn no_store() -> HeaderValue {
+    HeaderValue::from_static("no-store")
+}
+
+fn no_sniff() -> HeaderValue {
+    HeaderValue::from_static("nosniff")
+}
+
+// What every answer says.
+fn put_common(response: &mut Response) -> Result<(), AllocError> {
+    add(response, header::CONNECTION, close())?;
+    add(response, header::CACHE_CONTROL, no_store())?;
+    add(response, header::X_CONTENT_TYPE_OPTIONS, no_sniff())
 }
 
 impl<S: Collector> Service for Handler<'_, S> {
@@ -115,12 +170,7 @@ impl<S: Collector> Service for Handler<'_, S> {
         request: &Request<Bytes>,
         response: &mut Response,
     ) -> Result<(), AllocError> {
-        response.add_header(header::CONNECTION, HeaderValue::from_static("close"))?;
-        response.add_header(header::CACHE_CONTROL, HeaderValue::from_static("no-store"))?;
-        response.add_header(
-            header::X_CONTENT_TYPE_OPTIONS,
-            HeaderValue::from_static("nosniff"),
-        )?;
+        put_common(response)?;
         let wanted = asked_for(request.method().as_str(), request.uri().path());
         self.tell(wanted, response)
     }

@@ -3,18 +3,19 @@
 #![tactic(auto)]
 
 mod answer;
+mod as_json;
 mod exposition;
 mod handler;
+mod headings;
 mod html;
 pub mod laws;
 mod line;
 mod made;
 mod serving;
 mod troubles;
-mod unit_metrics;
 mod view;
 
-pub use answer::{Wanted, asked_for};
+pub use answer::{Seen, Wanted, asked_for};
 pub use exposition::metrics;
 pub use handler::{Collector, Handler};
 pub use html::PAGE;

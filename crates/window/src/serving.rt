@@ -50,6 +50,53 @@ fn left<R: Clock>(rt: &R, began: Duration, patience: u64) -> io::Result<Duration
     }
 }
 
+// Calls of the library, each by one that promises nothing: what these promise would be a part of each proof below.
+fn connection(alloc: Global, keys: RandomState) -> Connection {
+    Connection::new(alloc, keys, CONFIG)
+}
+
+fn advance<S: Collector>(connection: &mut Connection, handler: &mut Handler<'_, S>) {
+    connection.advance(handler)
+}
+
+fn write_to(connection: &mut Connection, stream: &TcpStream) -> io::Result<usize> {
+    let mut stream = stream;
+    connection.write_to(&mut stream)
+}
+
+fn read_from(connection: &mut Connection, stream: &TcpStream) -> io::Result<usize> {
+    let mut stream = stream;
+    connection.read_from(&mut stream)
+}
+
+// Sends what is pending, or reads, in the time that is left; false: the connection can take no more.
+fn transfer(connection: &mut Connection, stream: &TcpStream, left: Duration) -> io::Result<bool> {
+    if connection.wants_write() {
+        stream.set_write_timeout(Some(left))?;
+        return Ok(write_to(connection, stream)? != 0);
+    }
+    stream.set_read_timeout(Some(left))?;
+    let _ = read_from(connection, stream)?;
+    Ok(true)
+}
+
+// Answers, until all is said.
+fn converse<R: Clock, S: Collector>(
+    rt: &R,
+    connection: &mut Connection,
+    handler: &mut Handler<'_, S>,
+    stream: &TcpStream,
+    began: Duration,
+) -> io::Result<()> {
+    for _ in 0..u64::MAX {
+        advance(connection, handler);
+        if connection.is_done() || !transfer(connection, stream, left(rt, began, PATIENCE)?)? {
+            break;
+        }
+    }
+    Ok(())
+}
+
 // Answers a connection.
 fn answer<R: Clock + RandomSource, S: Collector>(
     rt: &R,
@@ -58,26 +105,9 @@ fn answer<R: Clock + RandomSource, S: Collector>(
     stream: &TcpStream,
     began: Duration,
 ) -> io::Result<()> {
-    let mut connection = Connection::new(alloc, RandomState::new(rt)?, CONFIG);
+    let mut connection = connection(alloc, RandomState::new(rt)?);
     let mut handler = Handler::new(alloc, collector);
-    let mut stream = stream;
-    for _ in 0..u64::MAX {
-        connection.advance(&mut handler);
-        if connection.is_done() {
-            break;
-        }
-        let left = left(rt, began, PATIENCE)?;
-        if connection.wants_write() {
-            stream.set_write_timeout(Some(left))?;
-            if connection.write_to(&mut stream)? == 0 {
-                break;
-            }
-        } else {
-            stream.set_read_timeout(Some(left))?;
-            let _ = connection.read_from(&mut stream)?;
-        }
-    }
-    Ok(())
+    converse(rt, &mut connection, &mut handler, stream, began)
 }
 
 // Ends a connection that was answered: what the peer still sends is read and dropped for a while, so that it has its answer.

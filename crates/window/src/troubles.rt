@@ -14,7 +14,7 @@ const SLOW: u64 = 1_000_000;
 const FLUSHES: usize = 4;
 
 /// What may be wrong with a unit.
-#[derive(Clone, Copy, PartialEq, Eq)]
+#[derive(Clone, Copy)]
 pub enum Trouble {
     /// A call on a file of it took longer than the deadline, or a command waits for its disk.
     Hangs,

@@ -1,16 +1,14 @@
 //! What is seen of an array at one look.
 
-use serde::Serialize;
-
 /// How often something was counted, and what that is called.
-#[derive(Drop, Serialize)]
+#[derive(Drop)]
 pub struct Tally {
     pub what: &'static str,
     pub count: u64,
 }
 
 /// What is counted of commands.
-#[derive(Drop, Serialize)]
+#[derive(Drop)]
 pub struct Commands {
     /// By their operations.
     pub operations: Vec<Tally>,
@@ -31,7 +29,7 @@ pub struct Commands {
 }
 
 /// A unit by a controller.
-#[derive(Drop, Serialize)]
+#[derive(Drop)]
 pub struct Route {
     pub controller: u64,
     /// Its asymmetric access state (SPC-4, 5.15.2.2), as a number and in words.
@@ -41,7 +39,7 @@ pub struct Route {
 }
 
 /// A registration, as READ FULL STATUS tells it (SPC-4, 6.15.5).
-#[derive(Drop, Serialize)]
+#[derive(Drop)]
 pub struct Registration {
     /// The InitiatorName, as the log spells names.
     pub initiator: String,
@@ -56,7 +54,7 @@ pub struct Registration {
 }
 
 /// A unit.
-#[derive(Drop, Serialize)]
+#[derive(Drop)]
 pub struct Unit {
     pub unit: u64,
     /// The controller that owns it, 1 or 2.
@@ -88,7 +86,7 @@ pub struct Unit {
 }
 
 /// A session.
-#[derive(Drop, Serialize)]
+#[derive(Drop)]
 pub struct Session {
     /// The InitiatorName, as the log spells names.
     pub initiator: String,
@@ -109,7 +107,7 @@ pub struct Session {
 }
 
 /// A controller.
-#[derive(Drop, Serialize)]
+#[derive(Drop)]
 pub struct Controller {
     pub controller: u64,
     pub portals: Vec<String>,
@@ -117,7 +115,7 @@ pub struct Controller {
 }
 
 /// An array.
-#[derive(Drop, Serialize)]
+#[derive(Drop)]
 pub struct View {
     pub version: &'static str,
     pub target: String,
