@@ -1,3 +1,3 @@
 mod Down
 mod Kept
-mod Up
+mod Chosen

@@ -1,7 +1,7 @@
 use Rattle.std.proofs.Common.{◌≡◌, ◌∙◌, ◌+◌, List, arith, ap, subst, sym}
 use Rattle.failover.specs.Down.{Move}
 use Rattle.failover.specs.Up.{AreUp}
-use Rattle.failover.proofs.Up.{few_moves, one_more_up, one_not_chosen, list_of_place}
+use Rattle.failover.proofs.Chosen.{few_moves, one_more_up, one_not_chosen, list_of_place}
 use Rattle.failover.proofs.up.bring_up.Goals as goal
 use Rattle.failover.proofs.up.bring_up.Goals.{then-chosen-place+in_default, else-chosen-place}
 
