@@ -23,11 +23,11 @@ behind_one s [] e = refl
 behind_one s (x ∷ h) e = behind_one (after s x) h e
 
 -- a history is legal where its beginning is, and what follows is in the state behind that
-legal_front : (claims : Bool) (s : UnitState) (h more : List Entry) → IsLegal claims s (h ++ more) → IsLegal claims s h
+pub legal_front : (claims : Bool) (s : UnitState) (h more : List Entry) → IsLegal claims s (h ++ more) → IsLegal claims s h
 legal_front claims s [] more is = tt
 legal_front claims s (x ∷ h) more is = (is.0, legal_front claims (after s x) h more is.1)
 
-legal_back : (claims : Bool) (s : UnitState) (h more : List Entry) → IsLegal claims s (h ++ more) → IsLegal claims (state_after s h) more
+pub legal_back : (claims : Bool) (s : UnitState) (h more : List Entry) → IsLegal claims s (h ++ more) → IsLegal claims (state_after s h) more
 legal_back claims s [] more is = is
 legal_back claims s (x ∷ h) more is = legal_back claims (after s x) h more is.1
 

@@ -33,7 +33,7 @@ same : (n : ℕ) → nat_eq n n ≡ true
 same n = ⊎_elim (λ (t : (nat_eq n n ≡ true) × (n ≡ n)). t.0)
     (λ (f : (nat_eq n n ≡ false) × (n ≢ n)). absurd (f.1 refl)) (eqb_tells n n)
 
-one_more : (session : ℕ) (e : Entry) (more : List Entry) → counted own session (e ∷ more) ≡ own session e + counted own session more
+pub one_more : (session : ℕ) (e : Entry) (more : List Entry) → counted own session (e ∷ more) ≡ own session e + counted own session more
 one_more session e more = let q = sum_by-append (own session) (e ∷ []) more in omega arith
 
 module _ (claims : Claims) (late : Late) (s : UnitState) (session : ℕ) where

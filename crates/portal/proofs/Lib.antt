@@ -1,4 +1,5 @@
 pub mod Answering
+pub mod Apart
 pub mod AsTold
 pub mod Attaching
 pub mod Chains

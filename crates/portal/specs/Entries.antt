@@ -1,6 +1,6 @@
 -- Which of what a session asked are entries of a unit's history, and that these are all of its own there, in order.
 use Rattle.std.specs.Prelude.{◌≡◌, ◌⊎◌, ℕ, ◌<◌, ◌≤◌, false, true, IsTrue, nat_eq, if◌then◌else◌, List, [], ◌∷◌, ◌++◌, length, MatchBool}
-use Rattle.std.specs.Prelude.{Some, None, Result, slice_get}
+use Rattle.std.specs.Prelude.{Some, None, Result, slice_get, take}
 use Rattle.std.specs.List.{flat_map}
 use Rattle.login.specs.declared.status.Kind.TheVariants.{Normal}
 use Rattle.registrants.specs.Nexus.{through}
@@ -120,6 +120,11 @@ module _ (claims : Claims) (late : Late) (s : UnitState) where
     pub entries : AreEntries (length before) (before ++ Attach nexus ∷ []) done behind
     pub ends : IsLast (length before) rest
     pub left : claims.left s (length before) history
+
+-- In this history a session of this nexus has attached at the place that is its number, and before that no entry is its own.
+pub record IsAttachOf (nexus : Nexus) (session : ℕ) (history : List Entry) : Type 0 where
+  pub stands : slice_get history session ≡ Some (Attach nexus)
+  pub none_before : counted own session (take session history) ≡ 0
 
 -- Two histories of one unit that differ in entries of this session's own alone, each of which stands where the other has one.
 abbrev pub AreAlike : ℕ → List Entry → List Entry → Type 0

@@ -1,16 +1,18 @@
 //! What is said of sessions, in a storage engineer's words.
-ghost use Rattle.std.specs.Prelude.{◌≡◌, ◌++◌, ◌∷◌, [], List, Bool, ℕ, false, length};
+ghost use Rattle.std.specs.Prelude.{◌≡◌, ◌⊎◌, ◌++◌, ◌∷◌, [], List, Bool, ℕ, false, true, length};
+ghost use mathlib.Core.List.{IsPrefix};
 ghost use Rattle.unit_control.specs.State.{UnitState};
 ghost use Rattle.unit_control.specs.Entry.{Entry, IsPossible, after};
 ghost use Rattle.unit_state.specs.History.{state_after};
-ghost use Rattle.unit_entries.specs.Histories.{IsHistory};
+ghost use Rattle.unit_entries.specs.Histories.{IsHistory, is_own};
 ghost use Rattle.scsi_types.specs.Nexus.{Nexus};
-ghost use Rattle.portal.specs.Entries.{AreAlike, Done, HasDone};
+ghost use Rattle.portal.specs.Entries.{AreAlike, Done, HasDone, IsAttachOf};
 ghost use Rattle.portal.specs.Late.{late_at, late_of, never};
 ghost use Rattle.portal.specs.Units.{any_device};
 
 use crate::gate::Gate;
 use crate::units::{LogicalUnits, Pass};
+use unit_state::laws::serials_count_commands;
 
 /// A command whose flush came behind it is one step of its unit: with the command as it was asked and told in the place of its entry,
 /// which it may have (`IsLate`), the history is legal over any device, and leads to the same state. What stands before it and behind
@@ -33,3 +35,17 @@ pub fn what_was_told_stands_in_one_history<U: LogicalUnits<P, H>, P: Pass, H: Dr
         → (is : HasDone U.claims (late_at (late_of G.is_late G.lasts) unit) s nexus done history)
         → (told : List Entry) × HasDone any_device never s nexus done told × AreAlike (length is.before) history told }
 {}
+
+/// Two sessions are two in the history of a unit, also two of one nexus. What a session hands out names its own Attach: its number is
+/// the place of that, no entry before it has this number, and those that have it are the session's own. An entry is no other session's
+/// too, and at one place of one history one nexus has attached.
+pub fn two_sessions_share_no_entry<U: LogicalUnits<P, H>, P: Pass, H: Drop, G: Gate>()
+    ensures attach { (s : UnitState) (unit : ℕ) (nexus : Nexus) (done : List Done) (history : List Entry)
+        → (is : HasDone U.claims (late_at (late_of G.is_late G.lasts) unit) s nexus done history)
+        → IsAttachOf nexus (length is.before) history }
+    ensures apart { (one two : ℕ) (e : Entry) → is_own one e ≡ true → is_own two e ≡ true → one ≡ two }
+    ensures nexus { (nexus other : Nexus) (session : ℕ) (one two : List Entry) → IsPrefix one two ⊎ IsPrefix two one
+        → IsAttachOf nexus session one → IsAttachOf other session two → nexus ≡ other }
+{
+    serials_count_commands();
+}
