@@ -12,7 +12,6 @@ use Rattle.scsi_types.specs.ReplyValue.{ReplyValue, check}
 use Rattle.scsi_types.specs.Sense.{lba_out_of_range, write_error}
 use Rattle.scsi_types.specs.declared.names.Group.{Group}
 use Rattle.scsi_types.specs.declared.command.Op.TheVariants as ops
-use Rattle.scsi_types.specs.declared.command.Command.TheVariants as commands
 use Rattle.scsi_types.specs.declared.status.Status.TheVariants.{Good}
 use Rattle.unit_control.specs.declared.refusal.Refusal.{Refusal}
 use Rattle.unit_control.specs.declared.refusal.Refusal.TheVariants.{Attention, Conflict, Check}

@@ -2,7 +2,7 @@
 use Rattle.std.specs.Prelude.{◌≡◌, ℕ, Bool}
 use Rattle.login.specs.declared.status.Kind.{Kind}
 use Rattle.scsi_types.specs.Nexus.{Port, Nexus}
-use Rattle.portal.specs.Live.{TableValue, HasEntered, IsCauseOf, is_live, without}
+use Rattle.portal.specs.Live.{TableValue, HasEntered, is_live, without}
 use Rattle.portal.specs.declared.live.EnterFault.{EnterFault}
 
 -- What was said of a table by its calls, and by nothing else: that a session of this nexus and kind began to live, with this number
