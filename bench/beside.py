@@ -22,10 +22,9 @@ import sys
 import tempfile
 import time
 
-TOP = os.path.dirname(os.path.dirname(os.path.abspath(__file__)))
-ARRAYD = os.environ.get("ARRAYD", os.path.join(TOP, "arrayd"))
-PORT = 3900
-NAME = "iqn.2000-01.test:array"
+sys.path.append(f"{sys.path[0]}/../trials")
+from running import ARRAYD, PORT, TARGET, TOP, Array, client, made
+
 TICKS = os.sysconf("SC_CLK_TCK")
 STOLEN = 0.03
 
@@ -55,17 +54,14 @@ def undisturbed(run, tries=5):
     return got
 
 
-class Arrayd:
+class Arrayd(Array):
     unit = 0
 
     def __init__(self, disk, program=ARRAYD):
-        words = [program, "--port", str(PORT), "--target", NAME, disk]
-        self.process = subprocess.Popen(words, stdin=subprocess.PIPE, stdout=subprocess.PIPE, text=True)
-        if self.process.stdout.readline() != "arrayd: ready\n":
-            sys.exit("arrayd does not get ready")
+        super().__init__([disk], program=program)
 
     def end(self):
-        self.process.communicate("quit\n")
+        self.last_words("quit\n")
 
 
 class Tgt:
@@ -74,7 +70,7 @@ class Tgt:
     def __init__(self, disk):
         self.process = subprocess.Popen(["tgtd", "-f", "--iscsi", f"portal=127.0.0.1:{PORT}"],
                                         stdout=subprocess.DEVNULL, stderr=subprocess.DEVNULL)
-        self.ask("target", "new", "-T", NAME, patience=50)
+        self.ask("target", "new", "-T", TARGET, patience=50)
         self.ask("logicalunit", "new", "--lun", "1", "-b", disk)
         self.ask("target", "bind", "-I", "ALL")
 
@@ -106,13 +102,13 @@ class Limit:
         self.process.wait()
 
 
-def measure(start, disk, client, port, words):
+def measure(start, disk, program, port, words):
     """Commands a second, and the microseconds of the processor that each took, user's and system's."""
     server = start(disk)
     try:
         before = processor_seconds(server.process.pid)
         began = time.perf_counter()
-        out = subprocess.run([client, f"127.0.0.1:{port}", NAME, str(server.unit), *words], capture_output=True,
+        out = subprocess.run([program, f"127.0.0.1:{port}", TARGET, str(server.unit), *words], capture_output=True,
                              text=True, timeout=120)
         took = time.perf_counter() - began
         if out.returncode != 0:
@@ -137,7 +133,7 @@ def told(line, medians, name):
                    f"processor {(user + system) / (limit[1] + limit[2]):.2f}")
 
 
-def compare(asked, line, run, disk, client):
+def compare(asked, line, run, disk, program):
     """Runs each program in turn, in which each goes first in every so many turns, and prints the line."""
     port = PORT + 4 * (asked.controller - 1)
     programs = [(Arrayd, port), (Limit, PORT)]
@@ -150,7 +146,7 @@ def compare(asked, line, run, disk, client):
         order = list(range(len(programs)))
         for which in order[turn % len(order):] + order[:turn % len(order)]:
             start, at = programs[which]
-            got[which].append(undisturbed(lambda: measure(start, disk, client, at, run)))
+            got[which].append(undisturbed(lambda: measure(start, disk, program, at, run)))
     medians = [[statistics.median(r[k] for r in runs) for k in range(3)] for runs in got]
     print(told(line, medians, "before" if asked.before else "tgt"), flush=True)
 
@@ -169,13 +165,9 @@ def main():
     asked = words.parse_args()
     Limit.letters = [asked.letters] if asked.letters else []
     with tempfile.TemporaryDirectory(dir="/dev/shm") as place:
-        client, Limit.program = os.path.join(place, "client"), os.path.join(place, "limit")
-        bench = os.path.join(TOP, "bench")
-        subprocess.run(["rustc", "-O", "--edition", "2021", "-o", client, f"{bench}/client.rs"], check=True)
-        subprocess.run(["cc", "-O2", "-pthread", "-o", Limit.program, f"{bench}/limit.c"], check=True)
-        disk = os.path.join(place, "disk.img")
-        with open(disk, "wb") as file:
-            file.truncate(asked.size << 20)
+        program, Limit.program = client(place), os.path.join(place, "limit")
+        subprocess.run(["cc", "-O2", "-pthread", "-o", Limit.program, f"{TOP}/bench/limit.c"], check=True)
+        disk = made(os.path.join(place, "disk.img"), asked.size << 11)
         for size in (512, 4096, 262144):
             for work in ("read", "write"):
                 for depth in map(int, asked.depths.split(",")):
@@ -183,7 +175,7 @@ def main():
                         line = f"{work} {size} bytes, {depth} deep, {sessions} session{'s'[sessions == 1:]}"
                         if asked.only in line:
                             run = [work, str(size), str(depth), str(sessions), str(asked.seconds)]
-                            compare(asked, line, run, disk, client)
+                            compare(asked, line, run, disk, program)
 
 
 if __name__ == "__main__":

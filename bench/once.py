@@ -6,7 +6,7 @@ meet the same machine. A kind that the program does not answer with GOOD is not 
 
 usage: bench/once.py [--count N] [--repeats N] [--only WORDS] [PROGRAM [PROGRAM]]
 
-PROGRAM is ./arrayd where none is given; `./example.sh --proved` makes it.
+Where no PROGRAM is given it is what ARRAYD names, or ./arrayd, which `./example.sh --proved` makes.
 """
 
 import argparse
@@ -17,8 +17,9 @@ import sys
 import tempfile
 import time
 
-TOP = os.path.dirname(os.path.dirname(os.path.abspath(__file__)))
-BUILT = os.path.join(TOP, "arrayd")
+sys.path.append(f"{sys.path[0]}/../trials")
+from running import ARRAYD, ran
+
 UNIT = 2048
 BLOCK = 512
 SEGMENT = 65536
@@ -97,7 +98,7 @@ KINDS = [
 def is_served(program, maker):
     """Whether the program answers each of the first commands with GOOD, and rejects nothing."""
     asked = b"".join(maker(number) for number in range(1, 5))
-    answer = subprocess.run([program, "--once"], input=asked, stdout=subprocess.PIPE).stdout
+    answer = ran(["--once"], asked, program=program)[1]
     good = 0
     while answer:
         opcode, status, length = answer[0] & 0x3F, answer[3], int.from_bytes(answer[5:8], "big")
@@ -155,7 +156,7 @@ def main():
     words.add_argument("--count", type=int, default=200000, help="commands a run; of 512 blocks a 64th")
     words.add_argument("--repeats", type=int, default=3, help="runs, of which the best counts")
     words.add_argument("--only", default="", help="only the kinds of command with these words in their name")
-    words.add_argument("program", nargs="*", default=[BUILT])
+    words.add_argument("program", nargs="*", default=[ARRAYD])
     asked = words.parse_args()
     for program in asked.program:
         if not os.path.exists(program):

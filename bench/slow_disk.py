@@ -18,7 +18,8 @@ import subprocess
 import sys
 import tempfile
 
-from beside import ARRAYD, NAME, PORT, TOP, Arrayd, Tgt, undisturbed
+from beside import Arrayd, Tgt, undisturbed
+from running import PORT, TARGET, client, library, made
 
 # So long is the disk that hardly any place is read twice in a run.
 SIZE = 16 << 30
@@ -53,24 +54,20 @@ class Bench:
 
     def __init__(self, place, seconds):
         self.seconds = seconds
-        self.client = os.path.join(place, "client")
-        library = os.path.join(place, "slow_disk.so")
-        subprocess.run(["rustc", "-O", "--edition", "2021", "-o", self.client, f"{TOP}/bench/client.rs"], check=True)
-        subprocess.run(["cc", "-O2", "-shared", "-fPIC", "-o", library, f"{TOP}/bench/slow_disk.c", "-ldl", "-lpthread"], check=True)
-        self.slow = {"LD_PRELOAD": library, "SLOW_DISK": os.path.join(place, "disks")}
+        self.client = client(place)
+        self.slow = {"LD_PRELOAD": library("bench/slow_disk.c", place), "SLOW_DISK": os.path.join(place, "disks")}
         os.mkdir(self.slow["SLOW_DISK"])
         self.disk = os.path.join(self.slow["SLOW_DISK"], "disk.img")
 
     def words(self, server, work, seconds, first=0):
         kind, size, depth, sessions = work
-        return [self.client, f"127.0.0.1:{PORT}", NAME, str(server.unit), kind, str(size), str(depth), str(sessions),
+        return [self.client, f"127.0.0.1:{PORT}", TARGET, str(server.unit), kind, str(size), str(depth), str(sessions),
                 str(seconds), str(SIZE), str(first)]
 
     def serve(self, start):
         for name in os.listdir(self.slow["SLOW_DISK"]):
             os.unlink(os.path.join(self.slow["SLOW_DISK"], name))
-        with open(self.disk, "wb") as file:
-            file.truncate(SIZE)
+        made(self.disk, SIZE // 512)
         os.environ.update(self.slow)
         try:
             return start(self.disk)

@@ -11,18 +11,14 @@ The disks lie in $DISKS, or in a folder of /dev/shm. Over those that bench/slow_
 """
 
 import os
-import subprocess
 import sys
 import tempfile
 import threading
 import time
 
 from initiator import BLOCK, BUSY, GOOD, Session
+from running import TARGET, Array, made
 
-TOP = os.path.dirname(os.path.dirname(os.path.abspath(__file__)))
-ARRAYD = os.environ.get("ARRAYD", os.path.join(TOP, "arrayd"))
-PORT = 20000 + os.getpid() % 10000
-TARGET = "iqn.2000-01.test:array"
 UNITS, PLACES, BLOCKS = 2, 16, 8
 # So many reads of a host are open at a time.
 AT_ONCE = 8
@@ -34,10 +30,10 @@ OPTIMIZED, NON_OPTIMIZED = 0, 1
 class Host:
     """A host with a path through each controller. It counts what was answered at each unit, the attaches among it."""
 
-    def __init__(self, number):
+    def __init__(self, number, array):
         self.number = number
         name = f"iqn.2000-01.test:host{number}"
-        self.paths = [Session("127.0.0.1", PORT + 4 * group, TARGET, name) for group in range(2)]
+        self.paths = [Session(*array.portal(controller), TARGET, name) for controller in (1, 2)]
         self.by = [number % 2] * UNITS
         self.entries = [len(self.paths)] * UNITS
         self.busy = self.told = self.changed = 0
@@ -125,27 +121,9 @@ class Host:
                 self.check(unit, place)
 
 
-class Array:
-    """The running array, by its console."""
-
-    def __init__(self, disks):
-        words = [ARRAYD, "--port", str(PORT), *disks]
-        self.process = subprocess.Popen(words, stdin=subprocess.PIPE, stdout=subprocess.PIPE, text=True)
-        if self.process.stdout.readline() != "arrayd: ready\n":
-            sys.exit("the array is not ready")
-
-    def ask(self, line, answers=1):
-        self.process.stdin.write(line + "\n")
-        self.process.stdin.flush()
-        return [self.process.stdout.readline().strip() for _ in range(answers)]
-
-    def entries(self):
-        return [int(line.split()[-1]) for line in self.ask("status", UNITS)]
-
-    def quit(self):
-        self.process.stdin.write("quit\n")
-        self.process.stdin.flush()
-        return self.process.wait(timeout=30)
+def entries(array):
+    """How long the history of each unit is."""
+    return [int(line.split()[-1]) for line in array.ask("status", UNITS)]
 
 
 def bring_up(host, optimized):
@@ -170,39 +148,41 @@ def move_about(array, host, until):
     return downs
 
 
+def tried(array, count, seconds):
+    """So many hosts work for so long while controllers go down and come up; what came of it."""
+    hosts = [Host(number, array) for number in range(count)]
+    mover = Host(count, array)
+    until = time.monotonic() + seconds
+    threads = [threading.Thread(target=host.run, args=[until]) for host in hosts]
+    for thread in threads:
+        thread.start()
+    downs = move_about(array, mover, until)
+    for thread in threads:
+        thread.join()
+    faults = [host.fault for host in hosts if host.fault]
+    if faults:
+        sys.exit("\n".join(faults))
+    for host in hosts:
+        host.check_all()
+    everyone = hosts + [mover]
+    wanted = [downs + sum(host.entries[unit] for host in everyone) for unit in range(UNITS)]
+    found = entries(array)
+    if found != wanted:
+        sys.exit(f"the histories have {found} entries, and {wanted} were answered")
+    told, changed, busy = (sum(getattr(host, what) for host in everyone) for what in ("told", "changed", "busy"))
+    if not told or not changed:
+        sys.exit("nobody met a controller that went down")
+    if array.quit() != 0:
+        sys.exit("the array did not end well")
+    return f"{sum(found)} entries, {downs} times down; {told} told, {changed} changed over, {busy} BUSY: all is there"
+
+
 def main():
     count, seconds = (int(word) for word in (sys.argv[1:] + ["8", "20"][len(sys.argv) - 1:]))
     with tempfile.TemporaryDirectory(dir=os.environ.get("DISKS", "/dev/shm")) as folder:
-        disks = [os.path.join(folder, f"{unit}.img") for unit in range(UNITS)]
-        for disk in disks:
-            with open(disk, "wb") as file:
-                file.truncate((count + 1) * PLACES * BLOCKS * BLOCK)
-        array = Array(disks)
-        hosts = [Host(number) for number in range(count)]
-        mover = Host(count)
-        until = time.monotonic() + seconds
-        threads = [threading.Thread(target=host.run, args=[until]) for host in hosts]
-        for thread in threads:
-            thread.start()
-        downs = move_about(array, mover, until)
-        for thread in threads:
-            thread.join()
-        faults = [host.fault for host in hosts if host.fault]
-        if faults:
-            sys.exit("\n".join(faults))
-        for host in hosts:
-            host.check_all()
-        everyone = hosts + [mover]
-        wanted = [downs + sum(host.entries[unit] for host in everyone) for unit in range(UNITS)]
-        found = array.entries()
-        if found != wanted:
-            sys.exit(f"the histories have {found} entries, and {wanted} were answered")
-        told, changed, busy = (sum(getattr(host, what) for host in everyone) for what in ("told", "changed", "busy"))
-        if not told or not changed:
-            sys.exit("nobody met a controller that went down")
-        if array.quit() != 0:
-            sys.exit("the array did not end well")
-        print(f"{sum(found)} entries, {downs} times down; {told} told, {changed} changed over, {busy} BUSY: all is there")
+        disks = [made(os.path.join(folder, f"{unit}.img"), (count + 1) * PLACES * BLOCKS) for unit in range(UNITS)]
+        with Array(disks) as array:
+            print(tried(array, count, seconds))
 
 
 if __name__ == "__main__":

@@ -8,15 +8,12 @@ usage: trials/faults.py
 
 import os
 import socket
-import subprocess
 import sys
 import tempfile
 
 from initiator import Session
+from running import PORT, TARGET, TOP, Array, made, ran
 
-TOP = os.path.dirname(os.path.dirname(os.path.abspath(__file__)))
-ARRAYD = os.environ.get("ARRAYD", os.path.join(TOP, "arrayd"))
-PORT = 20000 + os.getpid() % 10000
 WRONG = "wrong words"
 
 # The words, where P is a port that is free, and what is wrong with them.
@@ -40,9 +37,7 @@ TAKEN = [
 
 
 def run(words, text=""):
-    words = [word.replace("P", str(PORT)) for word in words]
-    ran = subprocess.run([ARRAYD, *words], input=text, capture_output=True, text=True, timeout=60)
-    return ran.returncode, ran.stdout, ran.stderr
+    return ran([word.replace("P", str(PORT)) for word in words], text)
 
 
 def expect(what, got, wanted):
@@ -62,35 +57,23 @@ def tells_of_itself():
     expect("--help", (status, told.split("\n")[0][:20], faults), (0, "usage: arrayd [OPTIO", ""))
 
 
-def make(name, size):
-    with open(name, "wb") as file:
-        file.truncate(size)
-
-
-def start():
-    words = [ARRAYD, "--port", str(PORT), "disk"]
-    array = subprocess.Popen(words, stdin=subprocess.PIPE, stdout=subprocess.PIPE, text=True)
-    array.stdout.readline()
-    return array
-
-
 def quit_beside_a_session():
     """Twice at the same ports, a session of each controller open."""
     sessions = []
     for _ in range(2):
-        array = start()
-        for controller in (0, 1):
-            sessions.append(Session("127.0.0.1", PORT + 4 * controller, "iqn.2000-01.test:array"))
-            sessions[-1].ready(0)
-        array.communicate("quit\n", timeout=20)
-        expect("quit with sessions open", array.returncode, 0)
+        with Array(["disk"]) as array:
+            for controller in (1, 2):
+                sessions.append(Session(*array.portal(controller), TARGET))
+                sessions[-1].ready(0)
+            expect("quit with sessions open", array.quit(20), 0)
 
 
 def main():
     with tempfile.TemporaryDirectory() as folder:
         os.chdir(folder)
-        for name, size in [("disk", 8192), ("odd", 8193), ("empty", 0), ("noreg", 8192), ("noreg.reg", 512)]:
-            make(name, size)
+        for name, blocks in [("disk", 16), ("odd", 16), ("empty", 0), ("noreg", 16), ("noreg.reg", 1)]:
+            made(name, blocks)
+        os.truncate("odd", 16 * 512 + 1)
         tells_of_itself()
         for words, fault in ROWS:
             refused(words.split(), fault)
@@ -103,10 +86,9 @@ def main():
         status = "unit 0 owner 1 states 0 1 generation 0 keys 0 type 0 entries 0\n"
         expect("the console", run(words, "x\nstatus\nquit\nstatus\n"), (0, "arrayd: ready\n?\n" + status, ""))
         expect("a last line without its end", run(words, "status"), (0, "arrayd: ready\n" + status, ""))
-        first = start()
-        refused(["--port", str(PORT + 8), "disk"], "cannot use unit 0")
-        first.communicate("quit\n")
-        expect("quit", first.returncode, 0)
+        with Array(["disk"]) as first:
+            refused(["--port", str(PORT + 8), "disk"], "cannot use unit 0")
+            expect("quit", first.quit(), 0)
         quit_beside_a_session()
     print(f"{len(ROWS) + len(TAKEN)} faults, the console, one server a disk, and quit, as they should be")
 

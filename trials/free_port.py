@@ -1,13 +1,21 @@
 #!/usr/bin/env python3
-"""Prints a port of the loopback at which an array can listen: it is free, and so is the one of controller 2, 4 above it.
+"""Prints a port of the loopback that is free, as are the 15 above it: an array's, whose controller 2 is 4 above controller 1 and
+whose controllers have up to four portals; or those of whatever else a script starts.
 
 usage: trials/free_port.py
 """
 
+import itertools
 import random
 import socket
+import sys
 
 HOST, APART = "127.0.0.1", 4
+# Below those that the system gives to whoever names none.
+FIRST, BEHIND, TOGETHER = 20000, 30000, 16
+COUNT = (BEHIND - FIRST) // TOGETHER
+# In an order of this process, in which none comes again before all others did: what was given just now may not be taken yet.
+TRIED = itertools.cycle(random.sample(range(FIRST, BEHIND, TOGETHER), COUNT))
 
 
 def is_free(port):
@@ -21,11 +29,13 @@ def is_free(port):
     return True
 
 
-def main():
-    # below those that the system gives to whoever names none
-    tried = random.sample(range(20000, 30000), 100)
-    print(next(port for port in tried if is_free(port) and is_free(port + APART)))
+def free_port():
+    """The first of so many free ports, other ones at each call."""
+    for port in itertools.islice(TRIED, COUNT):
+        if all(is_free(port + above) for above in range(TOGETHER)):
+            return port
+    sys.exit(f"no {TOGETHER} ports are free")
 
 
 if __name__ == "__main__":
-    main()
+    print(free_port())

@@ -229,9 +229,9 @@ def good(name, reply):
 def running(place):
     disk = made(os.path.join(place, "disk"), 2048)
     with Array([disk]) as array:
-        one = Session("127.0.0.1", array.port, TARGET, name="iqn.2000-01.test:one")
-        two = Session("127.0.0.1", array.port + 4, TARGET, name="iqn.2000-01.test:one")
-        other = Session("127.0.0.1", array.port + 4, TARGET, name="iqn.2000-01.test:other", isid=0x400001370007)
+        one = Session(*array.portal(1), TARGET, name="iqn.2000-01.test:one")
+        two = Session(*array.portal(2), TARGET, name="iqn.2000-01.test:one")
+        other = Session(*array.portal(2), TARGET, name="iqn.2000-01.test:other", isid=0x400001370007)
         for session in (one, two, other):
             session.ready(0)
         compare("nobody is registered", one, disk + ".reg")

@@ -216,14 +216,12 @@ class Run:
         self.array = Array([self.disk])
         self.sessions = {}
         for nexus in NEXUSES:
-            port = self.array.port + 4 * (nexus.group - 1)
-            self.sessions[nexus] = Session("127.0.0.1", port, TARGET, name=nexus.name, isid=nexus.isid)
+            self.sessions[nexus] = Session(*self.array.portal(nexus.group), TARGET, name=nexus.name, isid=nexus.isid)
 
     def end(self):
         for session in self.sessions.values():
             session.close()
-        self.array.process.kill()
-        self.array.process.wait()
+        self.array.kill()
 
     def compare(self, what, found, wanted):
         if found != wanted:

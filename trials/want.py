@@ -6,79 +6,47 @@ later one is served. Ends with status 1 where that is not so.
 
 usage: trials/want.py [PROGRAM]
 
-PROGRAM is ./arrayd where none is given; `./example.sh --proved` makes it. Linux; the lack of threads is tried only
-where this is run as root: the array is then run as the user `nobody`, whose threads are limited.
+Where no PROGRAM is given it is what ARRAYD names, or ./arrayd, which `./example.sh --proved` makes. Linux; the lack of threads is
+tried only where this is run as root: the array is then run as the user `nobody`, whose threads are limited.
 """
 
 import os
 import resource
 import shutil
 import socket
-import subprocess
 import sys
 import tempfile
 import time
 
+from free_port import free_port
 from initiator import Closed, Session
+from running import ARRAYD, TARGET, Array, Wrong, made
 
-TOP = os.path.dirname(os.path.dirname(os.path.abspath(__file__)))
-BUILT = os.path.join(TOP, "arrayd")
-TARGET = "iqn.2000-01.test:array"
 NOBODY = 65534
 MOST = 40
 REFUSED = (Closed, ConnectionError)
 
 
-class Wrong(Exception):
-    """The array did something else."""
+class Wanting(Array):
+    """A running array over one unit of 1 MiB, for which something is not there."""
 
-
-class Array:
-    """A running array over one unit of 1 MiB."""
-
-    def __init__(self, program, folder, port, limit=None, user=None):
-        self.port = port
-        disk = os.path.join(folder, f"{port}.img")
-        with open(disk, "wb") as file:
-            file.truncate(1 << 20)
+    def __init__(self, program, folder, user=None, limit=None):
+        port = free_port()
+        disk = made(os.path.join(folder, f"{port}.img"), 2048)
         if user is not None:
             os.chown(disk, user, user)
-
-        def begin():
-            if user is not None:
-                os.setgroups([])
-                os.setgid(user)
-                os.setuid(user)
-            if limit is not None:
-                resource.setrlimit(*limit)
-
-        self.ran = subprocess.Popen(
-            [program, "--port", str(port), disk], stdin=subprocess.PIPE, stdout=subprocess.PIPE, preexec_fn=begin, bufsize=0
-        )
-        if self.ran.stdout.readline() != b"arrayd: ready\n":
-            raise Wrong("the array does not get ready")
+        super().__init__([disk], port, program=program, user=user, limit=limit)
 
     def session(self, number, timeout=10):
         """A session of a port of its own, by either controller."""
-        session = Session("127.0.0.1", self.port + 4 * (number % 2), TARGET, isid=0x400001370000 + number, timeout=timeout)
+        session = Session(*self.portal(1 + number % 2), TARGET, isid=0x400001370000 + number, timeout=timeout)
         session.ready(0)
         return session
 
     def address_space(self):
         """How many bytes of address space it has."""
-        with open(f"/proc/{self.ran.pid}/statm") as file:
+        with open(f"/proc/{self.process.pid}/statm") as file:
             return int(file.read().split()[0]) * resource.getpagesize()
-
-    def quit(self):
-        self.ran.stdin.write(b"quit\n")
-        self.ran.stdin.close()
-        if self.ran.wait(20) != 0:
-            raise Wrong(f"the array ended with status {self.ran.returncode}")
-
-    def kill(self):
-        if self.ran.poll() is None:
-            self.ran.kill()
-            self.ran.wait()
 
 
 def go_on(sessions):
@@ -143,7 +111,9 @@ def lacks(what, array, refused=REFUSED, timeout=10):
         served_again(array, sessions)
         for session in sessions:
             session.logout()
-        array.quit()
+        status = array.quit()
+        if status != 0:
+            raise Wrong(f"the array ended with status {status}")
     except Wrong as wrong:
         raise Wrong(f"lack of {what}: {wrong}") from None
     finally:
@@ -153,8 +123,7 @@ def lacks(what, array, refused=REFUSED, timeout=10):
 
 
 def main():
-    program = os.path.abspath(sys.argv[1] if len(sys.argv) > 1 else BUILT)
-    port = 20000 + os.getpid() % 10000
+    program = os.path.abspath(sys.argv[1] if len(sys.argv) > 1 else ARRAYD)
     with tempfile.TemporaryDirectory(dir="/tmp") as folder:
         os.chmod(folder, 0o777)
         own = os.path.join(folder, "arrayd")
@@ -162,16 +131,15 @@ def main():
         try:
             if os.getuid() == 0:
                 # The main thread, two accept loops and eight lanes come first.
-                lacks("threads", Array(own, folder, port, (resource.RLIMIT_NPROC, (17, 17)), NOBODY))
+                lacks("threads", Wanting(own, folder, NOBODY, (resource.RLIMIT_NPROC, (17, 17))))
             else:
                 print("lack of threads: not tried, as this is not run as root")
-            array = Array(own, folder, port + 10)
+            array = Wanting(own, folder)
             room = array.address_space() + (4 << 20)
-            resource.prlimit(array.ran.pid, resource.RLIMIT_AS, (room, room))
+            resource.prlimit(array.process.pid, resource.RLIMIT_AS, (room, room))
             lacks("memory", array)
             # The console, the disk and its registrations, and two portals come first; a session has one.
-            limit = (resource.RLIMIT_NOFILE, (17, 17))
-            lacks("descriptors", Array(own, folder, port + 20, limit), (socket.timeout,), 2)
+            lacks("descriptors", Wanting(own, folder, limit=(resource.RLIMIT_NOFILE, (17, 17))), (socket.timeout,), 2)
         except Wrong as wrong:
             sys.exit(f"want.py: {wrong}")
 
