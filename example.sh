@@ -20,12 +20,11 @@ for wanted in rt python3; do
     fi
 done
 place=$(mktemp -d)
-maker_pid=
-array_pid=
-# Nothing that was started here stays, however this ends.
+pid=
+# Nothing that was started here stays, however this ends: an array ends with who holds its console.
 clean() {
-    for pid in $maker_pid $array_pid; do
-        kill "$pid" 2> /dev/null || true
+    for one in $pid; do
+        kill "$one" 2> /dev/null || true
     done
     wait
     rm -rf "$place"
@@ -33,37 +32,23 @@ clean() {
 trap clean EXIT
 trap 'exit 130' INT
 trap 'exit 143' TERM HUP
-# where the array has ended by itself, its console is told all the same
-trap 'exit 1' PIPE
 
 # A command that may take long, so that a signal ends it too.
-make_program() {
+run() {
     "$@" &
-    maker_pid=$!
-    wait "$maker_pid"
-    maker_pid=
+    pid=$!
+    wait "$pid"
+    pid=
 }
 
 if [ "$*" = --proved ]; then
     echo 'proving arrayd and each crate that it stands on, unless that was done here over the same text'
-    make_program python3 tools/prove.py
+    run python3 tools/prove.py
     ARRAYD=./arrayd
     echo 'the proved program lies here as ./arrayd'
 else
     echo 'compiling arrayd: it runs unproved here (./example.sh --proved proves it first)'
-    make_program python3 tools/unproved.py program "$place/arrayd"
+    run python3 tools/unproved.py program "$place/arrayd"
     ARRAYD=$place/arrayd
 fi
-. trials/array.sh
-
-truncate -s 1M "$place/disk.img"
-echo 'a disk of 1 MiB is made'
-port=$(python3 trials/free_port.py)
-start_array "$place/lines" --port "$port" "$place/disk.img"
-echo "arrayd listens at 127.0.0.1: controller 1 at port $port, controller 2 at port $((port + 4))"
-python3 trials/first_steps.py 127.0.0.1 "$port"
-tell_array status
-stop_array
-array_pid=
-echo "status: $(sed -n '2,$p' "$place/lines")"
-echo 'the array was told to quit, and has ended'
+run env ARRAYD="$ARRAYD" TMPDIR="$place" python3 trials/first_steps.py

@@ -3,13 +3,16 @@
 through the other, compares and writes, reserves the unit, and moves it to the other controller. Ends with status 1 where
 an answer is not what the standards say.
 
-usage: trials/first_steps.py HOST PORT
+usage: trials/first_steps.py                 starts an array on a disk of 1 MiB, and tells it `status` and `quit` behind the steps
+       trials/first_steps.py HOST PORT       with one that runs
 """
 
 import os
 import sys
+import tempfile
 
 from initiator import CHECK_CONDITION, GOOD, RESERVATION_CONFLICT, Closed, Failed, Refused, Session, discover
+from running import Array, Wrong, made
 
 
 def say(text):
@@ -22,8 +25,7 @@ def must(holds, text):
     say(text)
 
 
-def main():
-    host, port = sys.argv[1], int(sys.argv[2])
+def steps(host, port):
     [(target, addresses)] = discover(host, port).items()
     say(f"target {target}")
     for address in addresses:
@@ -69,8 +71,21 @@ def main():
         must(one.logout() == 0 and two.logout() == 0, "both sessions log out")
 
 
+def main():
+    if len(sys.argv) == 3:
+        return steps(sys.argv[1], int(sys.argv[2]))
+    with tempfile.TemporaryDirectory() as folder:
+        disk = made(os.path.join(folder, "disk.img"), 2048)
+        say("a disk of 1 MiB is made")
+        with Array([disk]) as array:
+            say(f"arrayd listens at 127.0.0.1: controller 1 at port {array.port}, controller 2 at port {array.portal(2)[1]}")
+            steps(*array.portal(1))
+            say(f"status: {array.ask('status')[0]}")
+            must(array.quit(60) == 0, "the array was told to quit, and has ended")
+
+
 if __name__ == "__main__":
     try:
         main()
-    except (Closed, Failed, Refused, OSError) as error:
+    except (Closed, Failed, Refused, Wrong, OSError) as error:
         sys.exit(f"not as it must be, behind the last line above: {error or error.__doc__}")

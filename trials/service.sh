@@ -6,7 +6,7 @@
 # usage: trials/service.sh
 cd "$(dirname "$0")/.." || exit 1
 place=$(mktemp -d)
-port=$((20000 + $$ % 10000))
+port=$(python3 trials/free_port.py)
 ARRAYD=$(realpath "${ARRAYD:-./arrayd}")
 export ARRAYD
 pid=
