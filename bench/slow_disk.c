@@ -183,49 +183,36 @@ static size_t length_of(const struct iovec *parts, int count)
     return length;
 }
 
+/* The other name of a function: an offset has 64 bits in both. */
+#define ALSO(NAME, FUNCTION) extern __typeof__(FUNCTION) NAME __attribute__((alias(#FUNCTION)))
+
 ssize_t pread64(int fd, void *bytes, size_t length, off64_t at)
 {
     before_read(fd, length, at);
     return real_pread(fd, bytes, length, at);
 }
-
-ssize_t pread(int fd, void *bytes, size_t length, off_t at)
-{
-    return pread64(fd, bytes, length, at);
-}
-
-ssize_t preadv64(int fd, const struct iovec *parts, int count, off64_t at)
-{
-    before_read(fd, length_of(parts, count), at);
-    return real_preadv(fd, parts, count, at);
-}
-
-ssize_t preadv(int fd, const struct iovec *parts, int count, off_t at)
-{
-    return preadv64(fd, parts, count, at);
-}
+ALSO(pread, pread64);
 
 ssize_t pwrite64(int fd, const void *bytes, size_t length, off64_t at)
 {
     before_write(fd, length, at);
     return real_pwrite(fd, bytes, length, at);
 }
+ALSO(pwrite, pwrite64);
 
-ssize_t pwrite(int fd, const void *bytes, size_t length, off_t at)
+ssize_t preadv64(int fd, const struct iovec *parts, int count, off64_t at)
 {
-    return pwrite64(fd, bytes, length, at);
+    before_read(fd, length_of(parts, count), at);
+    return real_preadv(fd, parts, count, at);
 }
+ALSO(preadv, preadv64);
 
 ssize_t pwritev64(int fd, const struct iovec *parts, int count, off64_t at)
 {
     before_write(fd, length_of(parts, count), at);
     return real_pwritev(fd, parts, count, at);
 }
-
-ssize_t pwritev(int fd, const struct iovec *parts, int count, off_t at)
-{
-    return pwritev64(fd, parts, count, at);
-}
+ALSO(pwritev, pwritev64);
 
 int posix_fadvise64(int fd, off64_t at, off64_t length, int advice)
 {
@@ -240,11 +227,7 @@ int posix_fadvise64(int fd, off64_t at, off64_t length, int advice)
     }
     return real_fadvise(fd, at, length, advice);
 }
-
-int posix_fadvise(int fd, off_t at, off_t length, int advice)
-{
-    return posix_fadvise64(fd, at, length, advice);
-}
+ALSO(posix_fadvise, posix_fadvise64);
 
 int fdatasync(int fd)
 {

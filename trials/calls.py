@@ -32,14 +32,15 @@ Prints a table; ends with status 1 at the first thing that is otherwise, with al
 usage: trials/calls.py [--in-place] [--jobs J] [PROGRAM]
        trials/calls.py [--in-place] --at N [--how HOW] [--end END] [PROGRAM]     one run, with all that was said
 
-J runs are made at a time, 1 where that is not said. HOW is none, half, whole or dead, as trials/calls.c has them; END is "at
-once", kill, quit, or kept: killed at once, but behind another GOOD. PROGRAM is ./arrayd where none is given; `./example.sh
---proved` makes it. Wants a C compiler and Linux.
+J runs are made at a time, 1 where that is not said. HOW is none, half, whole or dead, as trials/failing.c has them; END is "at
+once", kill, quit, or kept: killed at once, but behind another GOOD. Where no PROGRAM is given it is what ARRAYD names, or ./arrayd,
+which `./example.sh --proved` makes. Wants a C compiler and Linux.
 """
 
 import argparse
 import collections
 import concurrent.futures
+import contextlib
 import copy
 import os
 import queue
@@ -47,13 +48,14 @@ import shutil
 import sys
 import tempfile
 
+from failing import KINDS
 from judged import Enough, Judged
-from life import FILES, KINDS, REGISTRATIONS, TOP, Calls
+from life import FILES, REGISTRATIONS, Calls
 from may_be import (
-    BLOCK, BLOCKS, CLEAR, PREEMPT, REGISTER, REGISTER_AND_IGNORE, RELEASE, RESERVE, UNITS, Unit, Wrong,
+    BLOCK, BLOCKS, CLEAR, PREEMPT, REGISTER, REGISTER_AND_IGNORE, RELEASE, RESERVE, UNITS, Unit,
 )
+from running import ARRAYD, Wrong, made
 
-BUILT = os.path.join(TOP, "arrayd")
 # How a run ends: killed as soon as the failed call was told; the same, but where a save failed behind one PERSISTENT RESERVE
 # OUT more, which changes nothing and is GOOD, so that what was there before is saved; killed or told to quit, all asked.
 ENDS_OF_RUNS = ("at once", "kept", "kill", "quit")
@@ -190,29 +192,22 @@ class Run:
         for disk in self.disks:
             shutil.rmtree(os.path.dirname(disk), ignore_errors=True)
             os.mkdir(os.path.dirname(disk))
-            with open(disk, "wb") as file:
-                file.truncate(BLOCKS * BLOCK)
+            made(disk, BLOCKS)
         self.units = [Unit(number) for number in range(UNITS)]
 
     def live(self, ask, end, at=0, how="none"):
         """A life, and the calls that it made."""
         life = Judged(self.program, self.calls, self.disks, self.units, self.said, end, at, how)
-        try:
+        with life.array:
             if not life.is_ready():
                 life.close()
+                return life, self.calls.since()
+            with contextlib.suppress(Enough):
+                ask(life)
+            if end == "quit":
+                life.quit()
             else:
-                try:
-                    ask(life)
-                except Enough:
-                    pass
-                if end == "quit":
-                    life.quit()
-                else:
-                    life.kill()
-        finally:
-            if life.ran.poll() is None:
-                life.ran.kill()
-                life.ran.wait()
+                life.kill()
         return life, self.calls.since()
 
     def judged(self, ask, end, at, how):
@@ -384,7 +379,7 @@ def main():
     words.add_argument("--end", default="quit", choices=ENDS_OF_RUNS)
     words.add_argument("--in-place", action="store_true")
     words.add_argument("--jobs", type=int, default=1)
-    words.add_argument("program", nargs="?", default=BUILT)
+    words.add_argument("program", nargs="?", default=ARRAYD)
     words = words.parse_args()
     with tempfile.TemporaryDirectory() as folder:
         runs = Runs(os.path.abspath(words.program), folder, words.jobs, words.in_place)

@@ -8,8 +8,9 @@ import struct
 from life import DISK, FLUSHES, REGISTRATIONS, Life
 from may_be import (
     BLOCK, BY_A_DEVICE, CONFLICT, GOOD_REPLY, NON_OPTIMIZED, OPEN_FAILED, OPTIMIZED, READ_FAILED, REGISTER, SAVE_FAILED,
-    UNAVAILABLE, WRITE_FAILED, Registry, Wrong, check, told, told_of,
+    UNAVAILABLE, WRITE_FAILED, Registry, check, told, told_of,
 )
+from running import Wrong
 
 # Ends that come as soon as the failed call was told.
 AT_ONCE = ("at once", "kept")

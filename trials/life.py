@@ -1,23 +1,16 @@
 """A life of the array, from its start to its end, in which a call on a unit's files may fail, for trials/calls.py: the
-program, the list of its calls that trials/calls.c keeps, its start, its end, sessions, and what was said."""
+program, the list of its calls that trials/failing.c keeps, its start, its end, sessions, and what was said."""
 
-import itertools
-import mmap
 import os
-import select
 import struct
-import subprocess
 
-from free_port import APART, HOST, is_free
+from failing import KINDS, shared
+from free_port import free_port
 from initiator import Closed, Refused, Session
-from may_be import BY_A_DEVICE, Wrong, told
+from may_be import BY_A_DEVICE, told
+from running import PATIENCE, READY, TARGET, Array, Wrong, library
 
-TOP = os.path.dirname(os.path.dirname(os.path.abspath(__file__)))
-TARGET = "iqn.2000-01.test:array"
-PATIENCE = 30
-
-# The list of trials/calls.c.
-KINDS = ("", "open", "statx", "flock", "lseek", "pread", "pwrite", "fdatasync", "fsync", "ftruncate", "rename")
+# The list of trials/failing.c.
 ENDS = ("", "done", "refused by the system", "failed", "written by half", "written and failed")
 PLACES = 16384
 ENTRY = struct.Struct("=IIIIQQ")
@@ -52,15 +45,8 @@ class Calls:
     """The list that the preloaded library keeps, in a file that is shared with it."""
 
     def __init__(self, folder, in_place=False):
-        self.in_place = in_place
-        self.library = os.path.join(folder, "calls.so")
-        source = os.path.join(TOP, "trials", "calls.c")
-        subprocess.run(["cc", "-O2", "-shared", "-fPIC", "-o", self.library, source], check=True)
-        self.path = os.path.join(folder, "list")
-        with open(self.path, "wb") as file:
-            file.truncate(8 + PLACES * ENTRY.size)
-        with open(self.path, "r+b") as file:
-            self.map = mmap.mmap(file.fileno(), 8 + PLACES * ENTRY.size)
+        self.in_place, self.library, self.path = in_place, library("trials/failing.c", folder), os.path.join(folder, "list")
+        self.map = shared(self.path, 8 + PLACES * ENTRY.size)
 
     def environment(self, at, how, disks):
         """For a program that is to be started: the N-th call fails so. Begins a new list."""
@@ -81,18 +67,10 @@ class Calls:
 class Host:
     """A session through one of the controllers."""
 
-    def __init__(self, name, group, port):
+    def __init__(self, name, group, array):
         self.name, self.group = name, group
         self.nexus = name, group
-        name = f"iqn.2000-01.test:{name}"
-        self.session = Session(HOST, port + APART * (group - 1), TARGET, name, timeout=PATIENCE)
-
-PORTS = itertools.cycle(range(20000 + os.getpid() % 1200 * 8, 30000, 8))
-
-
-def free_port():
-    """A port at which an array can listen, and none that another run of this script took just now."""
-    return next(port for port in PORTS if is_free(port) and is_free(port + APART))
+        self.session = Session(*array.portal(group), TARGET, f"iqn.2000-01.test:{name}", timeout=PATIENCE)
 
 
 class Life:
@@ -105,12 +83,8 @@ class Life:
         self.flushes_refused = 0
         for unit in units:
             unit.start()
-        self.port = free_port()
         self.say(f"started, with call {at} to fail ({how})" if at else "started")
-        self.ran = subprocess.Popen(
-            [program, "--port", str(self.port), *disks], stdin=subprocess.PIPE, stdout=subprocess.PIPE,
-            stderr=subprocess.PIPE, bufsize=0, env=calls.environment(at, how, disks),
-        )
+        self.array = Array(disks, free_port(), is_awaited=False, program=program, more=calls.environment(at, how, disks))
 
     def say(self, line):
         self.said.append(line)
@@ -118,18 +92,6 @@ class Life:
     def heard(self, what, answer, seen):
         calls = "".join(f"\n        {call}" for call in seen)
         self.say(f"{what}: {answer}{calls}")
-
-    def line(self):
-        """The next line of standard output, or nothing at its end."""
-        got = b""
-        while not got.endswith(b"\n"):
-            if not select.select([self.ran.stdout], [], [], PATIENCE)[0]:
-                raise Wrong(f"no line for {PATIENCE} seconds")
-            byte = self.ran.stdout.read(1)
-            if not byte:
-                break
-            got += byte
-        return got.decode()
 
     def came(self, what):
         if self.came_to is None:
@@ -139,13 +101,13 @@ class Life:
 
     def is_ready(self):
         """Whether it got ready. Where a call failed it has ended, with the line of that call's file."""
-        line = self.line()
+        line = self.array.line()
         seen = self.calls.since()
         self.heard("start", line.strip() or "no line", seen)
         failed = [call for call in seen if call.has_failed()]
         if not failed:
-            if line != "arrayd: ready\n":
-                raise Wrong(f"no call failed, and it is not ready: {self.last_words()}")
+            if line != READY:
+                raise Wrong(f"no call failed, and it is not ready: {self.array.last_words()}")
             return True
         if line:
             raise Wrong(f"it says {line!r}, though a call has failed")
@@ -155,28 +117,20 @@ class Life:
         self.came("status 1")
         return False
 
-    def last_words(self):
-        try:
-            out, errors = self.ran.communicate(timeout=PATIENCE)
-        except subprocess.TimeoutExpired:
-            raise Wrong("it does not end") from None
-        return self.ran.returncode, out.decode(), errors.decode()
-
-    def ends(self, status, errors=""):
-        got, wanted = self.last_words(), (status, "", errors)
+    def ends(self, status, errors="", told=""):
+        got, wanted = self.array.last_words(told), (status, "", errors)
         self.say(f"ended with status {got[0]}, {got[2]!r}")
         if got != wanted:
             raise Wrong(f"status, output and errors at its end are {got}, and not {wanted}")
 
     def kill(self):
-        self.ran.kill()
+        self.array.process.kill()
         self.ends(-9)
         self.close()
 
     def quit(self):
         place = self.calls.count()
-        self.ran.stdin.write(b"quit\n")
-        self.ends(0)
+        self.ends(0, told="quit\n")
         seen = self.calls.since(place)
         self.heard("quit", "status 0", seen)
         for unit in self.units:
@@ -190,12 +144,10 @@ class Life:
     def close(self):
         for host in self.hosts:
             host.session.close()
-        for pipe in (self.ran.stdin, self.ran.stdout, self.ran.stderr):
-            pipe.close()
 
     def log_in(self, name, group):
         try:
-            host = Host(name, group, self.port)
+            host = Host(name, group, self.array)
         except (Closed, Refused, OSError) as fault:
             raise Wrong(f"no login of {name} at controller {group}: {fault!r}") from None
         self.hosts.append(host)
@@ -210,8 +162,7 @@ class Life:
 
     def ask_console(self, line, answers=1):
         place = self.calls.count()
-        self.ran.stdin.write(line.encode() + b"\n")
-        got = [self.line().rstrip("\n") for _ in range(answers)]
+        got = self.array.ask(line, answers)
         seen = self.calls.since(place)
         self.heard(f"console: {line}", ", ".join(got), seen)
         return got, seen

@@ -4,14 +4,11 @@ which registrations a start may find, and who is to be told what."""
 import struct
 
 from initiator import CHECK_CONDITION, GOOD, RESERVATION_CONFLICT
+from running import Wrong
 
 UNITS, BLOCKS, BLOCK = 2, 160, 512
 OPTIMIZED, NON_OPTIMIZED, UNAVAILABLE = 0, 1, 3
 REGISTER, RESERVE, RELEASE, CLEAR, PREEMPT, REGISTER_AND_IGNORE = 0, 1, 2, 3, 4, 6
-
-
-class Wrong(Exception):
-    """The array did something else."""
 
 
 def check(*sense):

@@ -12,11 +12,12 @@ In two of these examples a call of the device fails besides (trials/failing.py).
 
 usage: trials/refused.py [PROGRAM]
 
-PROGRAM is ./arrayd where none is given; `./example.sh --proved` makes it. Wants a C compiler and the GNU C library.
+Where no PROGRAM is given it is what ARRAYD names, or ./arrayd, which `./example.sh --proved` makes. Wants a C compiler and the GNU
+C library.
 """
 
 import argparse
-import mmap
+import errno
 import os
 import struct
 import subprocess
@@ -25,16 +26,13 @@ import tempfile
 import time
 
 from failing import Failing
-from sessions import EXAMPLES as OF_SESSIONS, STEPS, Wrong, serve, step_by_step
+from running import ARRAYD, TOP, Wrong, begun, ran
+from sessions import EXAMPLES as OF_SESSIONS, STEPS, serve, step_by_step
 
-TOP = os.path.dirname(os.path.dirname(os.path.abspath(__file__)))
-BUILT = os.path.join(TOP, "arrayd")
-ARRAYD = os.path.join(TOP, "crates", "arrayd")
 READ, WRITE, IMMEDIATE = 0x40, 0x20, 0x40
 GOOD, CHECK_CONDITION, BUSY, TASK_SET_FULL = 0x00, 0x02, 0x08, 0x28
 NO_TAG = 0xFFFFFFFF
 SEGMENT, LONGEST_DATA_IN, BURST = 65536, 8192, 262144
-PLACES = 512
 
 
 def sense(key, code, information=None):
@@ -345,44 +343,24 @@ EXAMPLES = {
 # ---- runs
 
 
-class Counts:
-    """What the preloaded library counts, in a file that is shared with it."""
-
-    def __init__(self, path):
-        self.path = path
-        with open(path, "wb") as file:
-            file.truncate(8 * PLACES)
-        self.file = open(path, "r+b")
-        self.map = mmap.mmap(self.file.fileno(), 8 * PLACES)
-
-    def clear(self):
-        self.map[:] = bytes(8 * PLACES)
-
-    def at(self, place):
-        return struct.unpack_from("=Q", self.map, 8 * place)[0]
-
-
 class Refuser:
     """Runs programs with one allocation refused."""
 
     def __init__(self, folder):
-        self.library = os.path.join(folder, "refused.so")
-        source = os.path.join(TOP, "trials", "refused.c")
-        subprocess.run(["cc", "-O2", "-shared", "-fPIC", "-o", self.library, source], check=True)
-        self.counts = Counts(os.path.join(folder, "counts"))
         self.failing = Failing(folder)
 
-    def environment(self, at, **more):
-        self.counts.clear()
+    def environment(self, at, from_accept=False):
+        """For a program that is to be started: the allocation with this number is refused, counted from 1; 0: none is."""
         self.failing.stop()
-        refuses = {"REFUSED_AT": str(at), "REFUSED_COUNTS": self.counts.path}
-        both = f"{self.library}:{self.failing.environment['LD_PRELOAD']}"
-        return {**self.failing.environment, "LD_PRELOAD": both, **refuses, **more}
+        self.failing.count(from_accept)
+        if at > 0:
+            self.failing.let("memory", errno.ENOMEM, behind=at - 1)
+        return self.failing.environment
 
-    def run(self, words, came, at):
+    def run(self, program, came, at):
         """Status, output and errors of a run, how many allocations it asked for, and how often it read."""
-        ran = subprocess.run(words, input=bytes(came), capture_output=True, env=self.environment(at), timeout=60)
-        return ran.returncode, ran.stdout, ran.stderr, self.counts.at(0), self.counts.at(1)
+        done = ran(["--once"], bytes(came), program=program, more=self.environment(at))
+        return *done, self.failing.allocations(), self.failing.reads()
 
 
 def pdus(data):
@@ -411,8 +389,7 @@ def judge(refuser, program, example, at):
     """What a run with this allocation refused came to, and whether it was refused at all."""
     script = Script()
     example(script)
-    words = [program, "--once"]
-    status, output, errors, asked, reads = refuser.run(words, script.came, at)
+    status, output, errors, asked, reads = refuser.run(program, script.came, at)
     if (status, output, errors) == (0, bytes(script.told), b""):
         return "example", asked >= at > 0
     if (status, output, errors, reads) == (1, b"", b"arrayd: no memory\n", 0):
@@ -421,7 +398,7 @@ def judge(refuser, program, example, at):
         raise Wrong(f"status {status}, {errors!r}, {len(output)} bytes went out, {reads} reads")
     again = Script(busy=busy_place(script, output))
     example(again)
-    status, output, errors, _, _ = refuser.run(words, again.came, at)
+    status, output, errors, _, _ = refuser.run(program, again.came, at)
     if (status, output, errors) != (0, bytes(again.told), b""):
         raise Wrong(f"allocation {at} refused: after BUSY the same command is not answered as in the example")
     return "BUSY", True
@@ -451,15 +428,13 @@ def between_reads(refuser, program, example):
     example(script)
     took = {}
     with tempfile.TemporaryFile() as written:
-        array = subprocess.Popen(
-            [program, "--once"], stdin=subprocess.PIPE, stdout=written, bufsize=0, env=refuser.environment(0)
-        )
+        array = begun(["--once"], program, more=refuser.environment(0), stdin=subprocess.PIPE, stdout=written, bufsize=0)
         wait_for_reads(refuser, array, 1)
         for number, (what, pdu, least, most) in enumerate(script.steps, 1):
             array.stdin.write(pdu)
             if not wait_for_reads(refuser, array, number + 1):
                 break
-            taken = refuser.counts.at(number + 2) - refuser.counts.at(number + 1)
+            taken = refuser.failing.before(number + 1) - refuser.failing.before(number)
             if not least <= taken <= most:
                 raise Wrong(f"{what}: {taken} allocations between two reads")
             took.setdefault(what, set()).add(taken)
@@ -473,11 +448,11 @@ def between_reads(refuser, program, example):
 
 def count_in_a_session(refuser, program, folder):
     """Prints how many allocations a session takes before its first read, and behind each PDU of its life."""
-    serve(program, folder, refuser.environment(0, REFUSED_FROM_ACCEPT="1"), refuser.failing, step_by_step)
-    reads = refuser.counts.at(1)
+    serve(program, folder, refuser.environment(0, from_accept=True), refuser.failing, step_by_step)
+    reads = refuser.failing.reads()
     if reads != len(STEPS) + 1:
         raise Wrong(f"{reads} reads of a session of {len(STEPS) + 1} PDUs")
-    before = [refuser.counts.at(place) for place in range(2, 2 + reads)]
+    before = [refuser.failing.before(read) for read in range(1, 1 + reads)]
     print(f"\nin a session of the array\n{'before its first read':26} {before[0]}")
     for (what, most), begun, ended in zip(STEPS, before, before[1:]):
         print(f"{what:26} {ended - begun}")
@@ -488,7 +463,7 @@ def count_in_a_session(refuser, program, folder):
 def wait_for_reads(refuser, array, reads):
     """Waits until the program has begun so many reads; not, where it has come to its end."""
     until = time.monotonic() + 10
-    while refuser.counts.at(1) < reads:
+    while refuser.failing.reads() < reads:
         if array.poll() is not None:
             return False
         if time.monotonic() > until:
@@ -503,13 +478,12 @@ def refuse_each_of_sessions(refuser, program, folder, example):
     at = 0
     while True:
         try:
-            environment = refuser.environment(at, REFUSED_FROM_ACCEPT="1")
-            what = serve(program, folder, environment, refuser.failing, example)
+            what = serve(program, folder, refuser.environment(at, from_accept=True), refuser.failing, example)
         except Wrong as wrong:
             raise Wrong(f"allocation {at} refused: {wrong}") from None
         if at == 0 and what != "example":
             raise Wrong(f"with ample memory it comes to {what}")
-        if at > refuser.counts.at(0):
+        if at > refuser.failing.allocations():
             return at - 1, counted
         if at > 0:
             counted[what] += 1
@@ -551,7 +525,7 @@ def stored(refuser, program):
     script = Script()
     three_commands(script)
     for name, spelled in (("stdin", script.came), ("stdout", script.told)):
-        with open(os.path.join(ARRAYD, name), "rb") as file:
+        with open(os.path.join(TOP, "crates", "arrayd", name), "rb") as file:
             if file.read() != bytes(spelled):
                 raise Wrong(f"crates/arrayd/{name} is not the example of three commands")
 
@@ -570,7 +544,7 @@ def count_between_reads(refuser, program):
 
 def main():
     words = argparse.ArgumentParser(usage=__doc__.split("usage: ")[1].splitlines()[0])
-    words.add_argument("program", nargs="?", default=BUILT)
+    words.add_argument("program", nargs="?", default=ARRAYD)
     words = words.parse_args()
     with tempfile.TemporaryDirectory() as folder:
         refuser = Refuser(folder)

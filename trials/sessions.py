@@ -3,27 +3,21 @@ command is answered as in the example, or once BUSY, and then, sent again, as in
 refused by 0302 or its connection closed, and then, tried again, accepted."""
 
 import errno
-import itertools
 import os
 import struct
-import subprocess
 
+from free_port import free_port
 from initiator import BUSY, CHECK_CONDITION, GOOD, RESERVATION_CONFLICT, Closed, Refused, Session
+from running import TARGET, Array, Wrong, made
 
-TARGET = "iqn.2000-01.test:array"
 BLOCK = 512
-PORTS = itertools.count(20000 + os.getpid() % 8000, 8)
-
-
-class Wrong(Exception):
-    """A run that did something else."""
 
 
 class Watched:
     """What an example asks of the array, and what became of the one allocation that was refused."""
 
-    def __init__(self, port, disk, failing):
-        self.port, self.disk, self.failing = port, disk, failing
+    def __init__(self, array, disk, failing):
+        self.array, self.disk, self.failing = array, disk, failing
         self.what = "example"
 
     def becomes(self, what):
@@ -36,7 +30,7 @@ class Watched:
         name = name and f"iqn.2000-01.test:{name}"
         while True:
             try:
-                return Session("127.0.0.1", self.port + 4 * (group - 1), target, name=name, isid=isid, timeout=20)
+                return Session(*self.array.portal(group), target, name=name, isid=isid, timeout=20)
             except Refused as refused:
                 if refused.status != 0x0302:
                     raise
@@ -100,7 +94,7 @@ def a_life(run):
 def discovery(run):
     session = run.log_in(target=None)
     told = session.text([("SendTargets", "All")])
-    if told != [("TargetName", TARGET)] + [("TargetAddress", f"127.0.0.1:{run.port + 4 * c},{c + 1}") for c in (0, 1)]:
+    if told != [("TargetName", TARGET)] + [("TargetAddress", "%s:%d,%d" % (*run.array.portal(c), c)) for c in (1, 2)]:
         raise Wrong(f"{told}")
     session.logout()
 
@@ -297,28 +291,13 @@ STEPS = (
 def serve(program, folder, environment, failing, example):
     """Starts the array on a new disk of 2048 blocks, of which calls may fail, and does what an example says; what became of a refused
     allocation."""
-    port = next(PORTS)
-    disk = os.path.join(folder, "disk.img")
-    for path in (disk, disk + ".reg"):
-        if os.path.exists(path):
-            os.remove(path)
-    with open(disk, "wb") as file:
-        file.truncate(2048 * BLOCK)
-    array = subprocess.Popen(
-        [program, "--port", str(port), disk], stdin=subprocess.PIPE, stdout=subprocess.PIPE, bufsize=0, env=environment
-    )
-    try:
-        if array.stdout.readline() != b"arrayd: ready\n":
-            raise Wrong("the array does not get ready")
-        run = Watched(port, disk, failing)
+    disk = made(os.path.join(folder, "disk.img"), 2048)
+    if os.path.exists(disk + ".reg"):
+        os.remove(disk + ".reg")
+    with Array([disk], free_port(), program=program, more=environment) as array:
+        run = Watched(array, disk, failing)
         example(run)
-        array.stdin.write(b"quit\n")
-        if array.wait(20) != 0:
-            raise Wrong(f"the array ended with status {array.returncode}")
+        status = array.quit()
+        if status != 0:
+            raise Wrong(f"the array ended with status {status}")
         return run.what
-    finally:
-        if array.poll() is None:
-            array.kill()
-            array.wait()
-        array.stdin.close()
-        array.stdout.close()
