@@ -12,23 +12,18 @@ import re
 import socket
 import stat
 import subprocess
-import sys
-import tempfile
 import time
 
-from running import PORT, TOP, Array, Wrong, ended, made
-from trouble import NotHere, is_so, lines
+from cases import Cases, is_so, lines, until
+from free_port import free_port
+from running import PORT, TOP, Array, Wrong, begun, ended, made
 from window import HOSTILE, host
 
-CASES = []
+CASES = Cases()
+case = CASES.case
 SESSION = re.compile(r'session (\d+) controller ([12]) type (normal|discovery) isid (0x[0-9a-f]+) peer ([0-9.]+:\d+) '
                      r'portal ([0-9.]+:\d+) since (\d+) commands (\d+) last ([a-z_]+) initiator "((?:[^"\\]|\\["\\]|\\x[0-9a-f]{2})*)"')
 HELP = ["status", "sessions", "keys U", "end TSIH", "up 1, up 2", "version", "help"]
-
-
-def case(function):
-    CASES.append(function)
-    return function
 
 
 def array_in(folder, units=1, log=None, more=None):
@@ -67,13 +62,6 @@ def sessions(folder):
             raise Wrong(f"no session: {line!r}")
         found[int(told[4], 16)] = told
     return found
-
-
-def until(true, seconds=5):
-    end = time.monotonic() + seconds
-    while not true() and time.monotonic() < end:
-        time.sleep(0.01)
-    return true()
 
 
 def is_closed(session):
@@ -291,20 +279,19 @@ def silent_peer(folder):
 def console_as_before(folder):
     """The console says the same with a control socket and without."""
     said = []
-    for more in ({}, {"ARRAYD_CONTROL": f"{folder}/control", "ARRAYD_HTTP": "127.0.0.1:%d" % (15000 + os.getpid() % 5000)}):
+    for more in ({}, {"ARRAYD_CONTROL": f"{folder}/control", "ARRAYD_HTTP": f"127.0.0.1:{free_port()}"}):
         with Array([made(f"{folder}/disk", 64), made(f"{folder}/more", 64)], more=more) as array:
             words_ = "status\nsessions\nversion\nend 1\nup 1\nhelp\n\xe9\ndown 1\nstatus\ndown 1\nup 1\n"
-            out, err = array.process.communicate(words_ + "quit\n", timeout=30)
-            said.append((out, err, array.process.returncode))
+            said.append(array.last_words(words_ + "quit\n"))
     is_so("the same", said[0], said[1])
-    is_so("unknown", said[0][0].count("?"), 7)
+    is_so("unknown", said[0][1].count("?"), 7)
 
 
 @case
 def beside_the_window(folder):
     """What it tells of sessions is what the window tells."""
     import json
-    at = 15000 + os.getpid() % 5000
+    at = free_port()
     with array_in(folder, more={"ARRAYD_HTTP": f"127.0.0.1:{at}"}) as array:
         session = host()
         session.read(0, 0, 1)
@@ -326,8 +313,7 @@ def console_of_the_service(folder):
                                          timeout=60)
     console, told = (os.open(f"{folder}/{name}", os.O_RDWR) for name in ("console", "told"))
     disk = made(f"{folder}/disk", 64)
-    program = subprocess.Popen([os.environ.get("ARRAYD", f"{TOP}/arrayd"), "--port", str(PORT), disk], stdin=console, stdout=told,
-                               env={**os.environ, "ARRAYD_CONTROL": f"{folder}/control"})
+    program = begun(["--port", str(PORT), disk], more={"ARRAYD_CONTROL": f"{folder}/control"}, stdin=console, stdout=told)
     os.close(console)
     os.close(told)
     try:
@@ -347,22 +333,5 @@ def console_of_the_service(folder):
         program.wait()
 
 
-def main():
-    wanted, failed = sys.argv[1:], 0
-    for tried in CASES:
-        if wanted and tried.__name__ not in wanted:
-            continue
-        with tempfile.TemporaryDirectory() as folder:
-            try:
-                tried(folder)
-                print(f"ok    {tried.__name__}", flush=True)
-            except NotHere as why:
-                print(f"left  {tried.__name__}: no {why}", flush=True)
-            except (Wrong, OSError, KeyError, IndexError, AssertionError, subprocess.SubprocessError) as why:
-                failed += 1
-                print(f"WRONG {tried.__name__}: {why!r}", flush=True)
-    sys.exit(1 if failed else 0)
-
-
 if __name__ == "__main__":
-    main()
+    CASES.main(__doc__)

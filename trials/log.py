@@ -22,10 +22,10 @@ import time
 
 import log_failing  # its cases
 import log_lines
-from initiator import BUSY, GOOD, Closed, Refused, Session
-from log_lines import CASES, ISID, TIME, Log, case, disk, login, read, write
-from running import PORT, TARGET, Array, Wrong, ended, made
-from trouble import Mounted, NotHere, end_of, flush, is_so, root, run
+from cases import FAULTS, ISID, Mounted, NotHere, end_of, fill, flush, is_so, login, read, refusal, root, until, write
+from initiator import BUSY, GOOD, Refused, Session
+from log_lines import CASES, TIME, Log, case, disk
+from running import PORT, TARGET, Array, ended
 
 NOBODY = 65534
 
@@ -143,11 +143,8 @@ def hostile_names(folder, log):
                 log.find("session_ended", initiator=name, why="logout")
             except Refused as refused:
                 log.find("login_refused", initiator=name, status=hex(refused.status))
-            try:
-                Session("127.0.0.1", PORT, TARGET + "x", name)
-                raise Wrong("another target is found")
-            except Refused:
-                log.find("login_refused", initiator=name, status="0x203", words="Not found")
+            is_so("another target", refusal(target=TARGET + "x", name=name), 0x203)
+            log.find("login_refused", initiator=name, status="0x203", words="Not found")
     is_so("nobody told an event of its own", log.events().count("ready"), 1)
 
 
@@ -155,19 +152,10 @@ def hostile_names(folder, log):
 def login_refused(folder, log):
     with Array([disk(folder)], log=log.path):
         for target, name, status, words in ((TARGET + "x", "iqn.a", 0x203, "Not found"), (TARGET, "", 0x207, "Missing parameter")):
-            try:
-                Session("127.0.0.1", PORT, target, name)
-                raise Wrong("it is not refused")
-            except Refused as refused:
-                is_so("status", refused.status, status)
+            is_so("status", refusal(target=target, name=name), status)
             line = log.find("login_refused", initiator=name, status=hex(status), words=words, isid=hex(ISID), tag="1")
             is_so("lacks", line.get("lacks"), None)
-        sessions = [login(1 + number % 2, number) for number in range(64)]
-        try:
-            login(number=64)
-            raise Wrong("a 65th session")
-        except Refused as refused:
-            is_so("a 65th session", refused.status, 0x302)
+        sessions = fill()
         log.find("login_refused", status="0x302", words="Out of resources", lacks="room", unit="0", isid=hex(ISID + 64),
                  initiator="iqn.2000-01.test:host")
         del sessions
@@ -219,17 +207,11 @@ def grew(folder, log):
 @case
 def hung(folder, log):
     with Mounted(folder) as place:
-        image = disk(folder, "image", 32768)
-        run("mkfs.ext4", "-q", "-F", image)
-        place.mount(place.loop(image))
-        with Array([disk(place.place)], log=log.path, more={"ARRAYD_DEADLINE": "1"}):
+        with Array(place.that_hangs(), log=log.path, more={"ARRAYD_DEADLINE": "1"}):
             session = login()
-            run("fsfreeze", "-f", place.place)
-            try:
+            with place.frozen():
                 is_so("writes", (write(session), write(session)), ("03 0C/00", "03 0C/00"))
                 log.find("hung", unit="0", file="disk", call="write")
-            finally:
-                run("fsfreeze", "-u", place.place)
 
 
 @case
@@ -321,10 +303,7 @@ def save_failed(folder, log):
 @case
 def flush_failed(folder, log):
     with Mounted(folder) as place:
-        place.mount("-t", "tmpfs", "-o", "size=256k", "none")
-        device = place.loop(made(place.place + "/file", 4096))
-        os.symlink(device, folder + "/unit0")
-        with Array([folder + "/unit0"], log=log.path) as array:
+        with Array([place.that_gets_full()], log=log.path) as array:
             session = login()
             for lba in range(0, 4096, 8):
                 is_so("a write is taken", write(session, lba), GOOD)
@@ -348,14 +327,10 @@ def registrations_that_a_reboot_forgets(folder, log):
 @case
 def busy(folder, log):
     with Mounted(folder) as place:
-        image = made(folder + "/image", 32768)
-        run("mkfs.ext4", "-q", "-F", image)
-        place.mount(place.loop(image))
-        with Array([made(place.place + "/disk", 2048), disk(folder, "other")], log=log.path) as array:
+        with Array(place.that_hangs(), log=log.path) as array:
             session, other = login(), login(2, 1)
             other.ready(1)
-            run("fsfreeze", "-f", place.place)
-            try:
+            with place.frozen():
                 session.submit(0, [0x2A, 0, 0, 0, 0, 0, 0, 0, 1, 0], out=bytes(512))
                 time.sleep(0.3)
                 array.tell("quit")
@@ -363,8 +338,6 @@ def busy(folder, log):
                 for command, send in COMMANDS.items():
                     is_so(command, send(other).status, BUSY)
                     log.find("busy", unit="1", command=command, group="2", isid=hex(ISID + 1))
-            finally:
-                run("fsfreeze", "-u", place.place)
             array.process.wait(20)
 
 
@@ -446,9 +419,7 @@ def many_at_once(folder, log):
         for _ in range(10):
             for session in [login(1 + number % 2, number) for number in range(30)]:
                 session.logout()
-        until = time.monotonic() + 20
-        while log.events().count("session_ended") < 295 and time.monotonic() < until:
-            time.sleep(0.1)
+        until(lambda: log.events().count("session_ended") >= 295, 20)
         time.sleep(1)
         array.quit()
     events, lost = log.events(), sum(int(line["lines"]) for line in log.all() if line["event"] == "dropped")
@@ -487,7 +458,7 @@ def tried(function):
         function(folder, log)
     except NotHere as why:
         said, was_tried = f"left out: {why}", False
-    except (Wrong, Refused, Closed, OSError) as fault:
+    except FAULTS as fault:
         said, is_right = f"NOT SO: {type(fault).__name__} {fault}", False
     finally:
         log.all()
@@ -519,8 +490,7 @@ def main():
     words.add_argument("--table", action="store_true")
     words.add_argument("names", nargs="*")
     words = words.parse_args()
-    chosen = [function for function in CASES if not words.names or function.__name__ in words.names]
-    ends = [tried(function) for function in chosen]
+    ends = [tried(function) for function in CASES.named(words.names, __doc__)]
     print(f"{sum(right for right, _ in ends)} so, {sum(not right for right, _ in ends)} not")
     if words.table:
         print_table()

@@ -1,15 +1,14 @@
 """The cases of trials/log.py in which a call of the system fails, memory is wanting, or an initiator does what none should."""
 
 import errno
-import os
 import socket
 import struct
 
 import failing
+from cases import ISID, NotHere, end_of, flush, is_so, login, read, write
 from initiator import GOOD, LOGIN, SCSI, Closed, Refused, Session, texts
-from log_lines import ISID, case, disk, login, read, write
+from log_lines import case, disk
 from running import PORT, TARGET, Array, Wrong, ended
-from trouble import NotHere, end_of, flush, is_so
 
 HOST = ("InitiatorName", "iqn.2000-01.test:host")
 NORMAL = [HOST, ("TargetName", TARGET)]

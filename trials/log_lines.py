@@ -6,21 +6,15 @@ import os
 import re
 import time
 
-from initiator import Session
-from running import PORT, TARGET, TOP, Wrong, made
-from trouble import end_of, is_so
+from cases import Cases, is_so
+from running import TOP, Wrong, made
 
-ISID = 0x400001370000
 TIME = re.compile(r"time=(\d{4})-(\d\d)-(\d\d)T(\d\d):(\d\d):(\d\d)\.(\d{6})Z ")
 FIELD = re.compile(r'([a-z_]+)=("(?:[^"\\]|\\["\\]|\\x[0-9a-f]{2})*"|[^ "]+)(?: |$)')
-CASES = []
+CASES = Cases()
+case = CASES.case
 # By event, field and value of the lines that were read: the cases that they were read in.
 TOLD = {}
-
-
-def case(function):
-    CASES.append(function)
-    return function
 
 
 def unquoted(value):
@@ -94,20 +88,6 @@ class Log:
 
 def disk(folder, name="disk", blocks=64):
     return made(os.path.join(folder, name), blocks)
-
-
-def login(controller=1, number=0, name="iqn.2000-01.test:host"):
-    session = Session("127.0.0.1", PORT + 4 * (controller - 1), TARGET, name, ISID + number, timeout=20)
-    session.ready(0)
-    return session
-
-
-def write(session, lba=0, unit=0):
-    return end_of(session.command(unit, [0x2A, 0, *lba.to_bytes(4, "big"), 0, 0, 1, 0], out=bytes(512)))
-
-
-def read(session, lba=0):
-    return end_of(session.command(0, [0x28, 0, *lba.to_bytes(4, "big"), 0, 0, 1, 0], expected=512))
 
 
 # ---- the words that a line may have

@@ -7,73 +7,25 @@ usage: trials/trouble.py [NAME..]        all, where none is named
 Some want root, a loop device or a file system of their own, and say so where they are left out.
 """
 
+import contextlib
 import os
 import shutil
 import socket
 import subprocess
 import sys
-import tempfile
 import threading
 import time
 
-from initiator import BUSY, CHECK_CONDITION, GOOD, RESERVATION_CONFLICT, Closed, Refused, Session, discover
+from cases import (
+    Cases, Mounted, NotHere, end_of, fill, flush, is_so, lines, login, read, refusal, root, run, write,
+)
+from free_port import free_port
+from initiator import BUSY, GOOD, RESERVATION_CONFLICT, Closed, Session, discover
 from running import PORT, TARGET, Array, Wrong, ended, made
 
 NOBODY = 65534
-CASES = []
-
-
-class NotHere(Exception):
-    """It cannot be tried on this machine."""
-
-
-def case(function):
-    CASES.append(function)
-    return function
-
-
-def is_so(what, found, wanted):
-    if found != wanted:
-        raise Wrong(f"{what}: {found!r}, and not {wanted!r}")
-
-
-def root():
-    if os.geteuid() != 0:
-        raise NotHere("it wants root")
-
-
-def run(*words):
-    return subprocess.run(words, check=True, stdout=subprocess.PIPE, stderr=subprocess.PIPE, text=True).stdout.strip()
-
-
-def lines(log, event):
-    """The lines of the log that tell of this event."""
-    with open(log, encoding="utf-8") as file:
-        return [line.strip() for line in file if f" event={event} " in line]
-
-
-def login(controller=1, number=0, name="iqn.2000-01.test:host", timeout=20):
-    session = Session("127.0.0.1", PORT + 4 * (controller - 1), TARGET, name, 0x400001370000 + number, timeout=timeout)
-    session.ready(0)
-    return session
-
-
-def end_of(reply):
-    """How a command ended: its status, or its sense where that is CHECK CONDITION."""
-    return reply.status if reply.status != CHECK_CONDITION else "%02X %02X/%02X" % reply.sense_key()
-
-
-def write(session, lba=0, text=b"new", unit=0):
-    return end_of(session.command(unit, [0x2A, 0, *lba.to_bytes(4, "big"), 0, 0, 1, 0], out=text.ljust(512, b".")))
-
-
-def read(session, lba=0, blocks=1, unit=0):
-    return end_of(session.command(unit, [0x28, 0, *lba.to_bytes(4, "big"), 0, *blocks.to_bytes(2, "big"), 0],
-                                  expected=512 * blocks))
-
-
-def flush(session):
-    return end_of(session.command(0, [0x35] + [0] * 9))
+CASES = Cases()
+case = CASES.case
 
 
 def take(session, group):
@@ -126,7 +78,7 @@ def disk_busy(folder):
     os.link(disk, folder + "/other")
     with Array([disk]):
         for name in ("disk", "link", "other"):
-            is_so(name, ended(["--port", str(PORT + 16), f"{folder}/{name}"]), (1, "arrayd: cannot use unit 0"))
+            is_so(name, ended(["--port", str(free_port()), f"{folder}/{name}"]), (1, "arrayd: cannot use unit 0"))
     is_so("twice in one array", ended([disk, folder + "/link"]), (1, "arrayd: cannot use unit 1"))
 
 
@@ -164,7 +116,7 @@ def registration_file_busy(folder):
     with Array([disk]) as array:
         os.rename(disk, disk + ".old")
         made(disk, 16)
-        is_so("a second array on the same registrations", ended(["--port", str(PORT + 16), disk]),
+        is_so("a second array on the same registrations", ended(["--port", str(free_port()), disk]),
               (1, "arrayd: cannot use registration file 0"))
         array.quit()
     with Array([disk]) as array:
@@ -318,17 +270,8 @@ def host_that_cannot_reach_it(folder):
 @case
 def login_refused(folder):
     with Array([made(folder + "/disk", 16)]) as array:
-        try:
-            Session("127.0.0.1", PORT, TARGET + "x")
-            raise Wrong("another target is found")
-        except Refused as refused:
-            is_so("another target's name", refused.status, 0x0203)
-        sessions = [login(1 + number % 2, number) for number in range(64)]
-        try:
-            login(number=64)
-            raise Wrong("a 65th session")
-        except Refused as refused:
-            is_so("a 65th session", refused.status, 0x0302)
+        is_so("another target's name", refusal(target=TARGET + "x"), 0x203)
+        sessions = fill()
         sessions[0].logout()
         login(number=64)
         array.quit()
@@ -349,9 +292,9 @@ def two_hosts_of_one_name(folder):
 @case
 def two_arrays_of_one_number(folder):
     pages = []
-    for port, number in ((PORT, 1), (PORT + 16, 1), (PORT + 32, 2)):
-        with Array([made(f"{folder}/{port}", 16)], port, ["--array", str(number)]):
-            session = Session("127.0.0.1", port, TARGET)
+    for number in (1, 1, 2):
+        with Array([made(f"{folder}/{len(pages)}", 16)], free_port(), ["--array", str(number)]) as array:
+            session = Session(*array.portal(1), TARGET)
             session.ready(0)
             pages.append(session.inquiry(0, 0x83))
     is_so("the same number is the same disk to a host", pages[0] == pages[1], True)
@@ -638,35 +581,6 @@ def registrations_not_saved(folder):
         array.quit()
 
 
-class Mounted:
-    """A file system of its own, with a disk in it."""
-
-    def __init__(self, folder):
-        root()
-        self.undo = []
-        self.place = folder + "/place"
-        os.mkdir(self.place)
-
-    def mount(self, *words):
-        run("mount", *words, self.place)
-        self.undo.append(("umount", self.place))
-
-    def loop(self, file):
-        try:
-            device = run("losetup", "--find", "--show", file)
-        except subprocess.CalledProcessError as error:
-            raise NotHere("it wants a loop device") from error
-        self.undo.append(("losetup", "-d", device))
-        return device
-
-    def __enter__(self):
-        return self
-
-    def __exit__(self, *_):
-        for words in reversed(self.undo):
-            run(*words)
-
-
 @case
 def block_device(folder):
     with Mounted(folder) as place:
@@ -679,9 +593,9 @@ def block_device(folder):
             is_so("with FUA", end_of(session.command(0, [0x2A, 8, 0, 0, 0, 1, 0, 0, 1, 0], out=b"f" * 512)), GOOD)
             session.reserve_out(0, 6, new_key=1, aptpl=True)
             is_so("it moves", array.ask("down 1"), ["down"])
-            is_so("the device itself is busy", ended(["--port", str(PORT + 16), device]), (1, "arrayd: cannot use unit 0"))
+            is_so("the device itself is busy", ended(["--port", str(free_port()), device]), (1, "arrayd: cannot use unit 0"))
             array.quit()
-        is_so("the device itself is refused", ended(["--port", str(PORT + 16), device]),
+        is_so("the device itself is refused", ended(["--port", str(free_port()), device]),
               (1, "arrayd: cannot use registration file 0"))
         is_so("its registration file lies beside the link", os.path.exists(folder + "/unit0.reg"), True)
         is_so("and none in /dev", os.path.exists(device + ".reg"), False)
@@ -696,11 +610,7 @@ def block_device(folder):
 @case
 def flush_failed(folder):
     with Mounted(folder) as place:
-        place.mount("-t", "tmpfs", "-o", "size=256k", "none")
-        file = made(place.place + "/file", 4096)
-        device = place.loop(file)
-        os.symlink(device, folder + "/unit0")
-        with Array([folder + "/unit0"]) as array:
+        with Array([place.that_gets_full()]) as array:
             session = login()
             is_so("a block for which there is room", (write(session, 0, b"kept"), flush(session)), (GOOD, GOOD))
             for lba in range(0, 4096, 8):
@@ -721,56 +631,51 @@ def flush_failed(folder):
             array.quit()
 
 
+@contextlib.contextmanager
+def hanging(folder):
+    """A running array whose first disk can be frozen: the place of that, the array, and a session by each controller."""
+    with Mounted(folder) as place, Array(place.that_hangs()) as array:
+        session, other = login(), login(2, 1)
+        other.ready(1)
+        yield place, array, session, other
+
+
 @case
 def disk_that_hangs(folder):
-    with Mounted(folder) as place:
-        image = made(folder + "/image", 32768)
-        run("mkfs.ext4", "-q", "-F", image)
-        place.mount(place.loop(image))
-        disks = [made(place.place + "/disk", 2048), made(folder + "/other", 16)]
-        with Array(disks) as array:
-            session, other = login(), login(2, 1)
-            other.ready(1)
-            run("fsfreeze", "-f", place.place)
+    with hanging(folder) as (place, array, session, other):
+        with place.frozen():
+            tag = session.submit(0, [0x2A, 0, 0, 0, 0, 0, 0, 0, 1, 0], out=bytes(512))
+            time.sleep(0.5)
+            is_so("another unit is served", write(other, unit=1), GOOD)
+            is_so("status is answered", array.status(1, 2)["unit"], "1")
+            array.tell("down 1")
+            told = []
+            reader = threading.Thread(target=lambda: told.append(array.answer()))
+            reader.start()
             try:
-                tag = session.submit(0, [0x2A, 0, 0, 0, 0, 0, 0, 0, 1, 0], out=bytes(512))
-                time.sleep(0.5)
-                is_so("another unit is served", write(other, unit=1), GOOD)
-                is_so("status is answered", array.status(1, 2)["unit"], "1")
-                array.tell("down 1")
-                told = []
-                reader = threading.Thread(target=lambda: told.append(array.answer()))
-                reader.start()
-                try:
-                    login(number=9, timeout=2)
-                    raise Wrong("a login is done")
-                except (TimeoutError, socket.timeout):
-                    pass
-                is_so("down waits", told, [])
-                array.tell("quit")
-                time.sleep(0.5)
-                is_so("so does quit behind it", array.process.poll(), None)
-            finally:
-                run("fsfreeze", "-u", place.place)
-            is_so("with the disk back the write ends", end_of(session.wait(tag)), GOOD)
-            reader.join()
-            is_so("down is done", told, ["down"])
-            is_so("and quit", array.process.wait(20), 0)
+                login(number=9, timeout=2)
+                raise Wrong("a login is done")
+            except (TimeoutError, socket.timeout):
+                pass
+            is_so("down waits", told, [])
+            array.tell("quit")
+            time.sleep(0.5)
+            is_so("so does quit behind it", array.process.poll(), None)
+        is_so("with the disk back the write ends", end_of(session.wait(tag)), GOOD)
+        reader.join()
+        is_so("down is done", told, ["down"])
+        is_so("and quit", array.process.wait(20), 0)
 
 
 @case
 def hung(folder):
     with Mounted(folder) as place:
-        image, log = made(folder + "/image", 32768), folder + "/log"
-        run("mkfs.ext4", "-q", "-F", image)
-        place.mount(place.loop(image))
-        disks = [made(place.place + "/disk", 2048), made(folder + "/other", 16)]
-        with Array(disks, log=log, more={"ARRAYD_DEADLINE": "2"}) as array:
+        log = folder + "/log"
+        with Array(place.that_hangs(), log=log, more={"ARRAYD_DEADLINE": "2"}) as array:
             session, other = login(), login(2, 1)
             session.ready(1)
             is_so("writes and reads", (write(session), read(session), flush(session)), (GOOD,) * 3)
-            run("fsfreeze", "-f", place.place)
-            try:
+            with place.frozen():
                 begun = time.monotonic()
                 is_so("a write", write(session), "03 0C/00")
                 if not 1.9 < time.monotonic() - begun < 4:
@@ -792,8 +697,6 @@ def hung(folder):
                     time.sleep(0.1)
                 else:
                     raise Wrong("quit waits")
-            finally:
-                run("fsfreeze", "-u", place.place)
             is_so("the system's own calls came back, and the process is gone", array.process.wait(20), 0)
         told = [line.split("event=", 1)[1] for line in lines(log, "hung")]
         is_so("the log", told, ["hung unit=0 file=disk call=write", "hung unit=0 file=registrations call=write"])
@@ -812,28 +715,19 @@ def wrong_deadlines(folder):
 
 @case
 def quit_with_commands_on_their_way(folder):
-    with Mounted(folder) as place:
-        image = made(folder + "/image", 32768)
-        run("mkfs.ext4", "-q", "-F", image)
-        place.mount(place.loop(image))
-        with Array([made(place.place + "/disk", 2048), made(folder + "/other", 16)]) as array:
-            session, other = login(), login(2, 1)
-            other.ready(1)
-            run("fsfreeze", "-f", place.place)
-            try:
-                tag = session.submit(0, [0x2A, 0, 0, 0, 0, 0, 0, 0, 1, 0], out=bytes(512))
-                time.sleep(0.3)
-                array.tell("quit")
-                time.sleep(0.5)
-                is_so("quit waits for the flush", array.process.poll(), None)
-                is_so("a command that comes meanwhile", write(other, unit=1), BUSY)
-                array.process.terminate()
-                time.sleep(0.5)
-                is_so("SIGTERM waits for the system's own call", array.process.poll(), None)
-            finally:
-                run("fsfreeze", "-u", place.place)
-            is_so("SIGTERM ends it without a flush", array.process.wait(20), -15)
-            del tag
+    with hanging(folder) as (place, array, session, other):
+        with place.frozen():
+            tag = session.submit(0, [0x2A, 0, 0, 0, 0, 0, 0, 0, 1, 0], out=bytes(512))
+            time.sleep(0.3)
+            array.tell("quit")
+            time.sleep(0.5)
+            is_so("quit waits for the flush", array.process.poll(), None)
+            is_so("a command that comes meanwhile", write(other, unit=1), BUSY)
+            array.process.terminate()
+            time.sleep(0.5)
+            is_so("SIGTERM waits for the system's own call", array.process.poll(), None)
+        is_so("SIGTERM ends it without a flush", array.process.wait(20), -15)
+        del tag
 
 
 @case
@@ -858,26 +752,5 @@ def signals(folder):
             is_so("the block is there", login().read(0, 0, 1)[:1], b"%d" % (number % 10 if number < 10 else 1))
 
 
-def main():
-    named = sys.argv[1:]
-    if not set(named) <= {function.__name__ for function in CASES}:
-        sys.exit(__doc__)
-    failed = 0
-    for function in CASES:
-        if named and function.__name__ not in named:
-            continue
-        with tempfile.TemporaryDirectory() as folder:
-            what = function.__name__.replace("_", " ")
-            try:
-                function(folder)
-                print(f"ok         {what}", flush=True)
-            except NotHere as why:
-                print(f"not tried  {what}: {why}", flush=True)
-            except (Wrong, Closed, OSError, subprocess.SubprocessError, Refused) as wrong:
-                print(f"WRONG      {what}: {wrong!r}", flush=True)
-                failed = 1
-    sys.exit(failed)
-
-
 if __name__ == "__main__":
-    main()
+    CASES.main(__doc__)

@@ -15,28 +15,23 @@ import re
 import shutil
 import socket
 import subprocess
-import sys
-import tempfile
 import threading
 import time
 
+from cases import Cases, Mounted, NotHere, end_of, flush, is_so, until, write
+from free_port import free_port
 from initiator import GOOD, RESERVATION_CONFLICT, Session
-from running import ARRAYD, PORT, TARGET, TOP, Array, Wrong, ended, made
-from trouble import Mounted, NotHere, end_of, flush, is_so, run, write
+from running import PORT, TARGET, TOP, Array, Wrong, ended, made, ran
 
-AT = 15000 + os.getpid() % 5000
-CASES = []
+AT = free_port()
+CASES = Cases()
+case = CASES.case
 SAMPLE = re.compile(r'([a-z_]+)\{((?:[a-z_]+="(?:[^"\\\n]|\\[\\"n])*",)*)\} (\d+(?:e-6)?)')
 LABEL = re.compile(r'([a-z_]+)="((?:[^"\\\n]|\\[\\"n])*)",')
 HOSTILE = [
     "a\narrayd_up 1", "quote\"} 1", "back\\slash\\", "<script>document.title='owned'</script>", "\x1b[2J\r\t", "\u00e9\U0001f600",
     "x" * 223,
 ]
-
-
-def case(function):
-    CASES.append(function)
-    return function
 
 
 def window(folder, units=1, at=None, options=(), log=None):
@@ -212,9 +207,7 @@ def sessions(folder):
         is_so("gauge", value(metrics(), "arrayd_sessions", controller=1), 1)
         read = value(metrics(), "arrayd_commands_total", unit=0, controller=1, operation="read")
         first.logout()
-        until = time.monotonic() + 5
-        while len(status()["sessions"]) != 1 and time.monotonic() < until:
-            time.sleep(0.01)
+        until(lambda: len(status()["sessions"]) == 1)
         is_so("left", [one["controller"] for one in status()["sessions"]], [2])
         is_so("kept", value(metrics(), "arrayd_commands_total", unit=0, controller=1, operation="read"), read)
         second.close()
@@ -230,9 +223,7 @@ def logins_that_are_refused(folder):
                 Session("127.0.0.1", PORT, "iqn.2000-01.test:no", timeout=20)
             except Exception:
                 pass
-        until = time.monotonic() + 5
-        while value(metrics(), "arrayd_refused_logins_total", cause="request") != 3 and time.monotonic() < until:
-            time.sleep(0.01)
+        until(lambda: value(metrics(), "arrayd_refused_logins_total", cause="request") == 3)
         found = metrics()
         is_so("logins", value(found, "arrayd_logins_total"), 1)
         is_so("refused", value(found, "arrayd_refused_logins_total", cause="request"), 3)
@@ -305,16 +296,12 @@ def disk_that_became_shorter(folder):
 def log_that_cannot_be_written(folder):
     with window(folder, log=f"{folder}/none/log") as array:
         session = host()
-        until = time.monotonic() + 5
-        while get("/health")[0] == 200 and time.monotonic() < until:
-            time.sleep(0.05)
+        until(lambda: get("/health")[0] != 200)
         is_so("health", get("/health")[::2], (503, b"The log cannot be written.\n"))
         is_so("in numbers", value(metrics(), "arrayd_problems"), 1)
         os.mkdir(f"{folder}/none")
         session.logout()
-        until = time.monotonic() + 5
-        while get("/health")[0] != 200 and time.monotonic() < until:
-            time.sleep(0.05)
+        until(lambda: get("/health")[0] == 200)
         is_so("well again", get("/health")[::2], (200, b"ok\n"))
         array.quit()
 
@@ -322,10 +309,7 @@ def log_that_cannot_be_written(folder):
 @case
 def flushes_that_are_lost(folder):
     with Mounted(folder) as place:
-        place.mount("-t", "tmpfs", "-o", "size=256k", "none")
-        file = made(place.place + "/file", 4096)
-        os.symlink(place.loop(file), folder + "/unit0")
-        with Array([folder + "/unit0"], more={"ARRAYD_HTTP": f"127.0.0.1:{AT}"}) as array:
+        with Array([place.that_gets_full()], more={"ARRAYD_HTTP": f"127.0.0.1:{AT}"}) as array:
             session = host()
             is_so("a flush", (write(session, 0), flush(session)), (GOOD, GOOD))
             for lba in range(0, 4096, 8):
@@ -341,14 +325,9 @@ def flushes_that_are_lost(folder):
 @case
 def disk_that_hangs(folder):
     with Mounted(folder) as place:
-        image = made(folder + "/image", 32768)
-        run("mkfs.ext4", "-q", "-F", image)
-        place.mount(place.loop(image))
-        disks = [made(place.place + "/disk", 2048), made(folder + "/other", 16)]
-        with Array(disks, more={"ARRAYD_HTTP": f"127.0.0.1:{AT}"}) as array:
+        with Array(place.that_hangs(), more={"ARRAYD_HTTP": f"127.0.0.1:{AT}"}) as array:
             session = host()
-            run("fsfreeze", "-f", place.place)
-            try:
+            with place.frozen():
                 tag = session.submit(0, [0x2A, 0, 0, 0, 0, 0, 0, 0, 1, 0], out=bytes(512))
                 time.sleep(2)
                 is_so("slow", status()["units"][0]["health"], "slow")
@@ -361,8 +340,6 @@ def disk_that_hangs(folder):
                 time.sleep(9)
                 is_so("health", wrong(0, "hangs"), "hangs")
                 is_so("for so long", 10 < value(metrics(), "arrayd_unit_oldest_command_seconds", unit=0) < 20, True)
-            finally:
-                run("fsfreeze", "-u", place.place)
             is_so("then", end_of(session.wait(tag)), GOOD)
             is_so("well again", (get("/health")[0], status()["units"][0]["health"]), (200, "well"))
             is_so("the bucket of what took so long",
@@ -519,14 +496,13 @@ def off_by_default(folder):
 
 @case
 def words(folder):
-    told = {word: subprocess.run([ARRAYD, word], capture_output=True, text=True, check=False)
-            for word in ("--version", "--help", "--no")}
     if os.path.exists(f"{TOP}/VERSION"):
         with open(f"{TOP}/VERSION", encoding="ascii") as file:
-            is_so("the file VERSION", told["--version"].stdout, f"arrayd {file.read().strip()}\n")
-    is_so("version", (told["--version"].returncode, told["--version"].stdout, told["--version"].stderr), (0, "arrayd 1.0.0\n", ""))
-    is_so("help", (told["--help"].returncode, "usage: arrayd" in told["--help"].stdout, told["--help"].stderr), (0, True, ""))
-    is_so("wrong", (told["--no"].returncode, told["--no"].stdout, told["--no"].stderr), (2, "", "arrayd: wrong words\n"))
+            is_so("the file VERSION", ran(["--version"])[1], f"arrayd {file.read().strip()}\n")
+    is_so("version", ran(["--version"]), (0, "arrayd 1.0.0\n", ""))
+    status_, told, errors = ran(["--help"])
+    is_so("help", (status_, "usage: arrayd" in told, errors), (0, True, ""))
+    is_so("wrong", ran(["--no"]), (2, "", "arrayd: wrong words\n"))
     is_so("two", ended(["--version", "--help"]), (2, "arrayd: wrong words"))
 
 
@@ -545,7 +521,7 @@ def dashboard(folder):
 @case
 def promtool(folder):
     if not shutil.which("promtool"):
-        raise NotHere("promtool")
+        raise NotHere("it wants promtool")
     with window(folder, 2) as array:
         session = host()
         stop = threading.Event()
@@ -566,8 +542,8 @@ def promtool(folder):
 @case
 def prometheus(folder):
     if not shutil.which("prometheus"):
-        raise NotHere("prometheus")
-    port = AT + 25000
+        raise NotHere("it wants prometheus")
+    port = free_port()
     with open(f"{folder}/prometheus.yml", "w", encoding="ascii") as file:
         file.write("global: {scrape_interval: 1s, scrape_timeout: 1s}\nscrape_configs:\n- job_name: arrayd\n"
                    f"  static_configs: [{{targets: ['127.0.0.1:{AT}']}}]\n")
@@ -590,22 +566,5 @@ def prometheus(folder):
         array.quit()
 
 
-def main():
-    wanted, failed = sys.argv[1:], 0
-    for tried in CASES:
-        if wanted and tried.__name__ not in wanted:
-            continue
-        with tempfile.TemporaryDirectory() as folder:
-            try:
-                tried(folder)
-                print(f"ok    {tried.__name__}", flush=True)
-            except NotHere as why:
-                print(f"left  {tried.__name__}: no {why}", flush=True)
-            except (Wrong, OSError, KeyError, AssertionError, subprocess.SubprocessError) as why:
-                failed += 1
-                print(f"WRONG {tried.__name__}: {why!r}", flush=True)
-    sys.exit(1 if failed else 0)
-
-
 if __name__ == "__main__":
-    main()
+    CASES.main(__doc__)

@@ -21,12 +21,13 @@ import tempfile
 import time
 import urllib.request
 
+from cases import is_so
+from free_port import free_port
 from initiator import Session
 from running import PORT, TARGET, Array, Wrong, made
-from trouble import is_so
 
-AT = 15000 + os.getpid() % 5000
-DEBUG = AT + 25000
+AT = free_port()
+DEBUG = free_port()
 NAME = "iqn.2000-01.test:<script>document.title='owned'</script>"
 ALIAS = "<script>document.title='owned'</script>"
 
