@@ -90,6 +90,18 @@ class Cluster:
             self.expect(f"{name} READ KEYS", sorted(self.paths[name].keys_of(0)), sorted(keys))
             self.expect(f"{name} READ RESERVATION", reservation_of(self.paths[name]), reservation)
 
+    def fences(self, by, key, other):
+        """A path fences the other node with its own key: that one alone is registered then, and holds; each path of the other one
+        is told, and may not write (SPC-4, 5.13.11)."""
+        own, fenced = ("A1", "A2"), ("B1", "B2")
+        if by not in own:
+            own, fenced = fenced, own
+        self.out(by, PREEMPT_AND_ABORT, key=key, new_key=other, kind=REGISTRANTS_ONLY)
+        self.stands([key, key], (key, 5), by=own)
+        for name in fenced:
+            self.turs(name, told=[PREEMPTED])
+            self.writes(name, RESERVATION_CONFLICT)
+
     def nothing(self):
         """Nobody is registered: whoever is left clears (SPC-4, 5.13.11)."""
         for session in self.paths.values():
@@ -129,11 +141,8 @@ def fence_scsi(cluster):
         cluster.writes(name)
     # A fences B by one path: both paths of B lose their registration, both are told (5.13.11)
     cluster.turs("A2")
-    cluster.out("A2", PREEMPT_AND_ABORT, key=a, new_key=b, kind=REGISTRANTS_ONLY)
-    cluster.stands([a, a], (a, 5), by=("A1", "A2"))
+    cluster.fences("A2", a, b)
     for name in ("B1", "B2"):
-        cluster.turs(name, told=[PREEMPTED])
-        cluster.writes(name, RESERVATION_CONFLICT)
         cluster.reads(name)
     cluster.writes("A1")
     # a fenced node can't fence in turn, nor reserve, nor unregister what it no longer has
@@ -144,11 +153,7 @@ def fence_scsi(cluster):
     for name in ("B1", "B2"):
         cluster.out(name, REGISTER_AND_IGNORE, new_key=b, aptpl=True)
     cluster.turs("B1")
-    cluster.out("B1", PREEMPT_AND_ABORT, key=b, new_key=a, kind=REGISTRANTS_ONLY)
-    cluster.stands([b, b], (b, 5), by=("B1", "B2"))
-    for name in ("A1", "A2"):
-        cluster.turs(name, told=[PREEMPTED])
-        cluster.writes(name, RESERVATION_CONFLICT)
+    cluster.fences("B1", b, a)
     for name in ("B1", "B2"):
         cluster.writes(name)
 
@@ -170,11 +175,7 @@ def fence_mpath(cluster):
     cluster.out("A1", REGISTER, key=0, new_key=a, wanted=RESERVATION_CONFLICT)
     cluster.out("A1", REGISTER, key=a, new_key=a)
     # B fences A, whose path through controller 2 holds
-    cluster.out("B2", PREEMPT_AND_ABORT, key=b, new_key=a, kind=REGISTRANTS_ONLY)
-    cluster.stands([b, b], (b, 5), by=("B1", "B2"))
-    for name in ("A1", "A2"):
-        cluster.turs(name, told=[PREEMPTED])
-        cluster.writes(name, RESERVATION_CONFLICT)
+    cluster.fences("B2", b, a)
     # the other path of the holder is registered, and doesn't hold: its RELEASE is GOOD and changes nothing (5.13.11)
     cluster.out("B1", RELEASE, key=b, kind=REGISTRANTS_ONLY)
     cluster.stands([b, b], (b, 5))

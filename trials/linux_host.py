@@ -86,14 +86,26 @@ def mirror():
     return "http://deb.debian.org/debian"
 
 
+def as_initrd(root, path):
+    """Packs a folder as what is loaded with the kernel: not compressed, since to unpack it would take the emulated processor longer
+    than anything else of the boot."""
+    with open(path, "wb") as packed:
+        found = subprocess.Popen(["find", ".", "-xdev"], cwd=root, stdout=subprocess.PIPE)
+        run("cpio", "-o", "-H", "newc", "--quiet", cwd=root, stdin=found.stdout, stdout=packed)
+
+
+def as_image(root, path, *words):
+    """A file system of a folder, made without a loop device and without a mount."""
+    if os.path.exists(path):
+        os.remove(path)
+    run("mke2fs", "-q", "-t", "ext4", "-d", root, *words[:-1], path, words[-1])
+
+
 def pack(folder):
     root = os.path.join(folder, "root")
     shutil.copy(os.path.join(TOP, "trials", "linux_guest.sh"), os.path.join(root, "guest"))
     os.chmod(os.path.join(root, "guest"), 0o755)
-    # not compressed: to unpack it would take the emulated processor longer than anything else of the boot
-    with open(os.path.join(folder, "initrd"), "wb") as packed:
-        found = subprocess.Popen(["find", ".", "-xdev"], cwd=root, stdout=subprocess.PIPE)
-        run("cpio", "-o", "-H", "newc", "--quiet", cwd=root, stdin=found.stdout, stdout=packed)
+    as_initrd(root, os.path.join(folder, "initrd"))
 
 
 class Served:

@@ -13,7 +13,6 @@ What it wants of Debian's packages says trials/package_machine.py.
 """
 
 import os
-import random
 import re
 import shutil
 import subprocess
@@ -21,7 +20,7 @@ import sys
 import tempfile
 import time
 
-from free_port import is_free
+from free_port import free_port
 from initiator import Closed, Refused, Session
 from package_host import Host
 from package_machine import Machine, build
@@ -237,12 +236,6 @@ def removed(machine):
 
 
 TRIALS = (three_commands, console, upgrade, filtered, missing, file_disk, rebooted, removed)
-
-
-def free_port():
-    """A port with which those of the second controller and of the shell are free too."""
-    tried = random.sample(range(20000, 30000, 16), 100)
-    return next(port for port in tried if all(is_free(port + at) for at in (0, 4, 8)))
 
 
 def trials(machine, chosen):

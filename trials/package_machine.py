@@ -14,7 +14,7 @@ import subprocess
 import sys
 import time
 
-from linux_host import mirror, run, take_kernel
+from linux_host import as_image, as_initrd, mirror, run, take_kernel
 
 PACKAGES = "systemd-sysv,dbus,udev,kmod,iproute2,procps,util-linux,e2fsprogs,python3,logrotate,socat,busybox-static"
 # The modules of the first steps, and those of the network, in whose order modprobe tells what they need.
@@ -107,14 +107,8 @@ def pack(folder, root, modules):
     write(os.path.join(first, "order"), "".join(os.path.basename(module) + "\n" for module in modules))
     for module in modules:
         shutil.copy(module, os.path.join(first, "modules"))
-    with open(os.path.join(folder, "initrd"), "wb") as packed:
-        found = subprocess.Popen(["find", "."], cwd=first, stdout=subprocess.PIPE)
-        run("cpio", "-o", "-H", "newc", "--quiet", cwd=first, stdin=found.stdout, stdout=packed)
-    image = os.path.join(folder, "root.img")
-    if os.path.exists(image):
-        os.remove(image)
-    # without a loop device, and without a mount
-    run("mke2fs", "-q", "-t", "ext4", "-d", root, image, "1200M")
+    as_initrd(first, os.path.join(folder, "initrd"))
+    as_image(root, os.path.join(folder, "root.img"), "1200M")
 
 
 class Machine:
@@ -128,7 +122,7 @@ class Machine:
             with open(images[-1][0], "wb") as file:
                 file.truncate(64 << 20)
         images.append((os.path.join(place, "packages.img"), "on"))
-        run("mke2fs", "-q", "-t", "ext4", "-d", packages, images[-1][0], "64M")
+        as_image(packages, images[-1][0], "64M")
         forwards = "".join(f",hostfwd=tcp:127.0.0.1:{port + at}-:{to}" for at, to in ((0, 3260), (4, 3264), (8, 2222)))
         words = ["qemu-system-x86_64", "-accel", "tcg,thread=multi", "-cpu", "max", "-m", "1024", "-smp", "1", "-display", "none",
                  "-monitor", "none", "-serial", f"file:{self.said}", "-kernel", os.path.join(folder, "vmlinuz"),

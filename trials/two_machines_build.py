@@ -9,7 +9,7 @@ import subprocess
 import sys
 import uuid
 
-from linux_host import mirror, run, take_kernel
+from linux_host import as_image, as_initrd, mirror, run, take_kernel
 from running import ARRAYD, TOP
 from two_machines_plan import Root, as_cib, own_file
 
@@ -149,11 +149,5 @@ def pack(folder, root, order):
     for module in order:
         shutil.copy(module, os.path.join(first, "modules"))
     write(os.path.join(first, "order"), "".join(os.path.basename(module) + "\n" for module in order))
-    with open(os.path.join(folder, "initrd"), "wb") as packed:
-        found = subprocess.Popen(["find", "."], cwd=first, stdout=subprocess.PIPE)
-        run("cpio", "-o", "-H", "newc", "--quiet", cwd=first, stdin=found.stdout, stdout=packed)
-    image = os.path.join(folder, "root.img")
-    if os.path.exists(image):
-        os.remove(image)
-    # a file system from a folder, without a loop device and without a mount
-    run("mke2fs", "-q", "-t", "ext4", "-d", root, "-L", "root", image, ROOT_SIZE)
+    as_initrd(first, os.path.join(folder, "initrd"))
+    as_image(root, os.path.join(folder, "root.img"), "-L", "root", ROOT_SIZE)

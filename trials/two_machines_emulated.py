@@ -4,7 +4,6 @@ wire between them that can be cut. The ports are this machine's own, on the loop
 import itertools
 import json
 import os
-import random
 import shutil
 import socket
 import struct
@@ -12,28 +11,16 @@ import subprocess
 import threading
 import time
 
-from free_port import is_free
+from free_port import HOST, free_port
+from running import Wrong
 from two_machines_disk import take
 
-HOST = "127.0.0.1"
 # Of a machine's four ports: controller 1 and 2 of the array, the shell, the end of the wire.
 CONTROLLER_1, CONTROLLER_2, SHELL, WIRE = 0, 4, 5, 6
 # What a step of a machine may take; its processor is emulated, and this machine may have much else to do.
 PATIENCE = 1200
 # How far its processor gives way to others.
 NICE = os.environ.get("MACHINES_NICE", "19")
-
-
-class Wrong(Exception):
-    """Something is not as it has to be."""
-
-
-def free_base():
-    """A port from which on all ports of a machine are free."""
-    for base in random.sample(range(20000, 30000, 8), 200):
-        if all(is_free(base + at) for at in (CONTROLLER_1, CONTROLLER_2, SHELL, WIRE)):
-            return base
-    raise Wrong("no free ports")
 
 
 class Wire:
@@ -99,7 +86,7 @@ class Machine:
         self.name, self.kind, self.folder, self.run = name, kind, folder, run
         # the disk, and the script by which the machine begins with it
         self.disk, self.when_on = disk, when_on
-        self.base = free_base()
+        self.base = free_port()
         self.process = None
         self.starts = itertools.count(1)
 
