@@ -56,7 +56,8 @@ unit 1 owner 2 states 1 0 generation 0 keys 0 type 0'
 is 'down 1' "$(console down 1)" down
 is 'and the other controller owns both units' "$(console status | sed 's/ generation.*//')" 'unit 0 owner 2 states 3 0
 unit 1 owner 2 states 3 0'
-is 'a line that it does not know is not asked' "$(console up 1 > "$place/up"; echo $?)" 2
+is 'a line that it does not know is not asked' "$(console up 3 > "$place/up"; echo $?)" 2
+is 'nor one of the control socket, where there is none' "$(console up 1 > "$place/up"; echo $?)" 3
 is 'two that ask at once each get their own answer' "$(for i in 1 2 3 4 5 6 7 8; do console status & done | grep -c '^unit [01] owner 2')" 16
 echo status > "$place/run/console"
 is 'what an echo has asked is not taken for an answer' "$(console down 1)" down
