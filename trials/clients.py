@@ -94,7 +94,8 @@ def test_cu(url, kept):
         lines = said.read().splitlines()
     print("\n".join(line for line in lines if re.match(" +(suites|tests|asserts) ", line)))
     failed = [at for at, line in enumerate(lines) if re.match(r" +[0-9]+\. .* - ", line)]
-    print("\n".join([line for at in failed for line in lines[max(0, at - 1):at + 1]][:200]), flush=True)
+    shown = sorted({number for at in failed for number in (max(0, at - 1), at)})
+    print("\n".join(lines[number] for number in shown[:200]), flush=True)
 
 
 def everything(array, folder, is_quick):
