@@ -640,12 +640,18 @@ def hanging(folder):
         yield place, array, session, other
 
 
+def on_its_way(session):
+    """A write that the disk keeps back: its tag, once it is there."""
+    tag = session.submit(0, [0x2A, 0, 0, 0, 0, 0, 0, 0, 1, 0], out=bytes(512))
+    time.sleep(0.5)
+    return tag
+
+
 @case
 def disk_that_hangs(folder):
     with hanging(folder) as (place, array, session, other):
         with place.frozen():
-            tag = session.submit(0, [0x2A, 0, 0, 0, 0, 0, 0, 0, 1, 0], out=bytes(512))
-            time.sleep(0.5)
+            tag = on_its_way(session)
             is_so("another unit is served", write(other, unit=1), GOOD)
             is_so("status is answered", array.status(1, 2)["unit"], "1")
             array.tell("down 1")
@@ -717,8 +723,7 @@ def wrong_deadlines(folder):
 def quit_with_commands_on_their_way(folder):
     with hanging(folder) as (place, array, session, other):
         with place.frozen():
-            tag = session.submit(0, [0x2A, 0, 0, 0, 0, 0, 0, 0, 1, 0], out=bytes(512))
-            time.sleep(0.3)
+            tag = on_its_way(session)
             array.tell("quit")
             time.sleep(0.5)
             is_so("quit waits for the flush", array.process.poll(), None)
