@@ -33,7 +33,7 @@ fn address_in(text: &str) -> Result<SocketAddrV4, Fault> {
 }
 
 /// What the environment asks for.
-pub fn asked<R: Env + AllocGlobal>(rt: &R) -> Result<Asked, Fault> {
+pub fn read<R: Env + AllocGlobal>(rt: &R) -> Result<Asked, Fault> {
     let http = match value_of(rt, HTTP)? {
         Some(text) => Some(address_in(text.as_str())?),
         None => None,

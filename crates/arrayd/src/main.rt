@@ -52,7 +52,7 @@ fn asked<R: Env + AllocGlobal + Files<File = File> + Clone + Drop>(
     alloc: Global,
     units: usize,
 ) -> Result<(Log, Option<LogFile<R>>, Asked), Fault> {
-    let asked = administration::asked(rt)?;
+    let asked = administration::read(rt)?;
     let (log, file) = asked_log(rt, alloc)?;
     Ok((asked.counted(alloc, log, units)?, file, asked))
 }
