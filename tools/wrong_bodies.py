@@ -25,6 +25,7 @@ import os
 import queue
 import re
 import shutil
+import signal
 import subprocess
 import sys
 import tempfile
@@ -69,7 +70,8 @@ class Lane:
                 has_enough = line.startswith("fn ") and is_enough(said)
                 if has_enough:
                     self.seconds += seconds_below(ran.pid)
-                    ran.terminate()
+                    # (terminate() would collect one that has just ended, whose time is asked for below)
+                    os.kill(ran.pid, signal.SIGTERM)
                     break
             _, status, used = os.wait4(ran.pid, 0)
             ran.returncode = os.waitstatus_to_exitcode(status)
