@@ -326,31 +326,31 @@ impl Control {
     }
 
     /// What a PERSISTENT RESERVE OUT of a session makes of the registry, in a registry of its own. Takes no memory.
-    pub fn attempt(&self, made: &mut Registry, sender: Sender, asked: PrOut) -> PrEnd
+    pub fn attempt(&self, scratch: &mut Registry, sender: Sender, asked: PrOut) -> PrEnd
         requires { IsPlaceOf self.now.sessions sender.session sender.at }
-        ensures { IsAnswer result (effect_by self.now sender.session asked) self.now.registry made.new }
+        ensures { IsAnswer result (effect_by self.now sender.session asked) self.now.registry scratch.new }
     {
         let attached = &self.sessions[sender.at];
-        made.set(&self.registry);
-        made.out(&attached.port, attached.group, asked)
+        scratch.set(&self.registry);
+        scratch.out(&attached.port, attached.group, asked)
     }
 
     /// Whether the record to last of such a registry is to be saved before it is in force: not where a crash leaves just
     /// that already, and the last save did not fail.
-    pub fn is_to_save(&self, made: &Registry) -> bool
-        ensures needed { IsTrue result → self.now.lasting ≡ to_last made.now ∷ [] → self.now.doubt ≡ true }
-        ensures saved { IsFalse result → (self.now.lasting ≡ to_last made.now ∷ []) × (self.now.doubt ≡ false) }
+    pub fn is_to_save(&self, scratch: &Registry) -> bool
+        ensures needed { IsTrue result → self.now.lasting ≡ to_last scratch.now ∷ [] → self.now.doubt ≡ true }
+        ensures saved { IsFalse result → (self.now.lasting ≡ to_last scratch.now ∷ []) × (self.now.doubt ≡ false) }
     {
         match self.save {
-            LastSave::Done => !same_record(&self.registry.lasting(), &made.lasting()),
+            LastSave::Done => !same_record(&self.registry.lasting(), &scratch.lasting()),
             LastSave::Failed | LastSave::Undecided => true,
         }
     }
 
     /// A save of the record to last of such a registry has failed. Takes no memory.
-    pub fn fail(&mut self, fault: SaveFault, made: &mut Registry)
+    pub fn fail(&mut self, fault: SaveFault, scratch: &mut Registry)
         ensures ever { 0 < length self.old.lasting }
-        ensures failed { self.new ≡ with_doubt self.old (left_by fault self.old.lasting (to_last made.old)) }
+        ensures failed { self.new ≡ with_doubt self.old (left_by fault self.old.lasting (to_last scratch.old)) }
         ensures stays { StaysAll self.old self.new }
     {
         match fault {
@@ -361,7 +361,7 @@ impl Control {
             }
             SaveFault::IdleSlot => self.save = LastSave::Failed,
             SaveFault::NewRoot => {
-                mem::swap(&mut self.landed, made);
+                mem::swap(&mut self.landed, scratch);
                 self.save = LastSave::Undecided;
             }
         }
@@ -369,13 +369,13 @@ impl Control {
 
     /// Puts a registry in force, the record to last of which is what a crash leaves, and tells who is to hear of it. Takes
     /// no memory.
-    pub fn settle(&mut self, made: &mut Registry, telling: &Telling)
+    pub fn settle(&mut self, scratch: &mut Registry, telling: &Telling)
         ensures settled { self.new
-            ≡ after_effect self.old (Done made.old (tellings telling.now self.old.registry.registrants)) }
+            ≡ after_effect self.old (Done scratch.old (tellings telling.now self.old.registry.registrants)) }
         ensures stays { StaysAll self.old self.new }
     {
         hear_all(&mut self.sessions, &self.registry, telling);
-        mem::swap(&mut self.registry, made);
+        mem::swap(&mut self.registry, scratch);
         self.save = LastSave::Done;
     }
 

@@ -24,7 +24,7 @@ use std::alloc::Global;
 pub fn reserve<F: Blocks>(
     file: &mut RegFile<F>,
     control: &mut Control,
-    made: &mut Registry,
+    scratch: &mut Registry,
     alloc: Global,
     sender: Sender,
     asked: PrOut,
@@ -45,15 +45,15 @@ pub fn reserve<F: Blocks>(
     ensures fine { (blocks : List (List ℕ)) → Tells (F.failures file.old.device) (F.failures file.new.device)
         (IsFine (choice_of result blocks control.new.lasting)) }
 {
-    match control.attempt(made, sender, asked) {
+    match control.attempt(scratch, sender, asked) {
         PrEnd::Good(telling) => {
-            if control.is_to_save(made) {
-                if let Err(fault) = file.save(&made.lasting()) {
-                    control.fail(fault, made);
+            if control.is_to_save(scratch) {
+                if let Err(fault) = file.save(&scratch.lasting()) {
+                    control.fail(fault, scratch);
                     return Reply::check(alloc, Sense::INTERNAL_TARGET_FAILURE);
                 }
             }
-            control.settle(made, &telling);
+            control.settle(scratch, &telling);
             Reply::good(Vec::new(alloc))
         }
         PrEnd::Conflict => Reply::conflict(alloc),

@@ -44,7 +44,7 @@ pub fn answer<B: Blocks, O: Opener<B>, F: Blocks>(
     device: &mut B,
     opener: &mut O,
     file: &mut RegFile<F>,
-    made: &mut Registry,
+    scratch: &mut Registry,
     control: &mut Control,
     alloc: Global,
     sender: Sender,
@@ -103,7 +103,7 @@ pub fn answer<B: Blocks, O: Opener<B>, F: Blocks>(
         }
     };
     serve(
-        device, opener, file, made, control, alloc, sender, command, bytes,
+        device, opener, file, scratch, control, alloc, sender, command, bytes,
     )
 }
 
@@ -126,7 +126,7 @@ fn serve<B: Blocks, O: Opener<B>, F: Blocks>(
     device: &mut B,
     opener: &mut O,
     file: &mut RegFile<F>,
-    made: &mut Registry,
+    scratch: &mut Registry,
     control: &mut Control,
     alloc: Global,
     sender: Sender,
@@ -191,7 +191,7 @@ fn serve<B: Blocks, O: Opener<B>, F: Blocks>(
         } => Ok(reserve(
             file,
             control,
-            made,
+            scratch,
             alloc,
             sender,
             pr_out(action, scope, kind, bytes),

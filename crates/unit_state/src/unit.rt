@@ -53,7 +53,7 @@ pub struct Unit<B: Blocks, F: Blocks, O: Opener<B>> {
     file: RegFile<F>,
     control: Control,
     // Where a PERSISTENT RESERVE OUT makes its registry.
-    made: Registry,
+    scratch: Registry,
 }
 
 impl<B: Blocks, F: Blocks, O: Opener<B>> Model for Unit<B, F, O> {
@@ -107,13 +107,13 @@ impl<B: Blocks, F: Blocks, O: Opener<B>> Unit<B, F, O> {
         }) }
     {
         let control = Control::new(alloc, place, blocks.count(), lasted)?;
-        let made = Registry::new(alloc)?;
+        let scratch = Registry::new(alloc)?;
         Ok(Unit {
             device: blocks,
             opener,
             file,
             control,
-            made,
+            scratch,
         })
     }
 
@@ -251,7 +251,7 @@ impl<B: Blocks, F: Blocks, O: Opener<B>> Unit<B, F, O> {
             &mut self.device,
             &mut self.opener,
             &mut self.file,
-            &mut self.made,
+            &mut self.scratch,
             &mut self.control,
             alloc,
             sender,
