@@ -369,8 +369,8 @@ impl Control {
 
     /// Puts a registry in force, the record to last of which is what a crash leaves, and tells who is to hear of it. Takes
     /// no memory.
-    pub fn settle(&mut self, scratch: &mut Registry, telling: &Telling)
-        ensures settled { self.new
+    pub fn put_in_force(&mut self, scratch: &mut Registry, telling: &Telling)
+        ensures in_force { self.new
             ≡ after_effect self.old (Done scratch.old (tellings telling.now self.old.registry.registrants)) }
         ensures stays { StaysAll self.old self.new }
     {

@@ -53,7 +53,7 @@ pub fn reserve<F: Blocks>(
                     return Reply::check(alloc, Sense::INTERNAL_TARGET_FAILURE);
                 }
             }
-            control.settle(scratch, &telling);
+            control.put_in_force(scratch, &telling);
             Reply::good(Vec::new(alloc))
         }
         PrEnd::Conflict => Reply::conflict(alloc),

@@ -4,7 +4,7 @@ use Rattle.unit_control.specs.Reserve.{hear}
 use Rattle.unit_control.specs.Sessions.{IsFit}
 use Rattle.unit_control.specs.declared.sessions.Attached.{Attached}
 use Rattle.unit_control.proofs.Places.{place_mapped, serials_fit_heard}
-use Rattle.unit_control.proofs.control.Control.settle.Goals as goal
+use Rattle.unit_control.proofs.control.Control.put_in_force.Goals as goal
 
 pub invariant_of-self : goal.invariant_of-self
 invariant_of-self c = (
