@@ -18,7 +18,7 @@ use Rattle.unit_control.specs.declared.refusal.Refusal.TheVariants.{Attention, C
 use Rattle.unit_control.specs.State.{ControlValue, UnitState}
 use Rattle.unit_control.specs.Choice.{Choice, Fine, ReadFailed, WriteFailed, OpenFailed, SaveFailed}
 use Rattle.unit_control.specs.Entry.{Entry, Attach, Detach, Reset, Move, Command, CanChoose, IsPossible, IsReplyTo, IsReplyWith, MayCome, after, blocks_with}
-use Rattle.unit_control.specs.Entry.{control_with, left_control, pass, returned}
+use Rattle.unit_control.specs.Entry.{control_with, left_control, count_command, returned}
 use Rattle.unit_state.specs.History.{state_after, IsLegal}
 use Rattle.unit_control.specs.Medium.{Finding, MayFind, WriteError, left, work_of}
 use Rattle.unit_control.specs.Refusal.{Request, request, refusal, refusal_reply, access_by, attention_rule, conflict_rule, field_rule, list_rule, opcode_rule}
@@ -270,10 +270,10 @@ module _ (claims : Bool) (now : UnitState) (session serial : ℕ) (by : Group) (
       ≡ blocks_with (refusal c (served c session bytes f)) now.blocks (work_of (served_by f) bytes) choice
       → after now (as_asked end) ≡ after now was
   leads end controls blocks =
-      ap (λ (x : ControlValue). with_blocks (pass x session) (blocks_with (refusal c (asked c session bytes f)) now.blocks
-      (work_of (asked_by f) bytes) end)) controls
-      ∙ ap (λ (b : List (List ℕ)). with_blocks (pass (control_with (refusal c (served c session bytes f)) c (served c session bytes f)
-      choice) session) b) blocks
+      ap (λ (x : ControlValue). with_blocks (count_command x session)
+      (blocks_with (refusal c (asked c session bytes f)) now.blocks (work_of (asked_by f) bytes) end)) controls
+      ∙ ap (λ (b : List (List ℕ)). with_blocks (count_command
+      (control_with (refusal c (served c session bytes f)) c (served c session bytes f) choice) session) b) blocks
     where
       with_blocks : ControlValue → List (List ℕ) → UnitState
       with_blocks x b = record { control = x; blocks = b }

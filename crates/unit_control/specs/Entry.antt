@@ -20,7 +20,8 @@ use Rattle.scsi_types.specs.declared.command.CdbFault.{CdbFault}
 use Rattle.unit_control.specs.declared.refusal.Refusal.{Refusal}
 use Rattle.unit_control.specs.Limits.{last_length, most_sessions}
 use Rattle.unit_control.specs.State.{ControlValue, UnitState}
-use Rattle.unit_control.specs.Sessions.{attached, session_of, next_of, sender_of, first_pending, passed, ended, all_reset, without}
+use Rattle.unit_control.specs.Sessions.{attached, session_of, next_of, sender_of, first_pending, command_counted, ended}
+use Rattle.unit_control.specs.Sessions.{all_reset, without}
 use Rattle.unit_control.specs.Groups.{IsTaken, set_by, move_by, is_opening, after_change, report_by}
 use Rattle.unit_control.specs.Reserve.{MayFailToSave, pr_out, effect_by, after_saved, saved_reply, in_data}
 use Rattle.unit_control.specs.Choice.{Choice, Fine, ReadFailed, WriteFailed, OpenFailed, SaveFailed}
@@ -225,8 +226,8 @@ blocks_with (Some refused) blocks work choice = blocks
 blocks_with None blocks work choice = left blocks work choice
 
 -- one command more of a session, and one entry more
-abbrev pub pass : ControlValue → ℕ → ControlValue
-pass c session = record c { sessions = passed c.sessions session; count = c.count + 1 }
+abbrev pub count_command : ControlValue → ℕ → ControlValue
+count_command c session = record c { sessions = command_counted c.sessions session; count = c.count + 1 }
 
 -- one entry more
 abbrev pub count_one : ControlValue → ControlValue
@@ -241,7 +242,7 @@ control_after c (Reset session) = record c { sessions = all_reset c.sessions ses
 control_after c (Move list choice) = count_one (after_change c None (move_by c list))
 control_after c (Command session serial by asked bytes choice) =
     let r = request session asked bytes in
-    pass (control_with (refusal c r) c r choice) session
+    count_command (control_with (refusal c r) c r choice) session
 
 -- the blocks of a disk after an entry
 abbrev pub blocks_after : UnitState → Entry → List (List ℕ)

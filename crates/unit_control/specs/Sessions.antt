@@ -65,11 +65,11 @@ changed f [] id = []
 changed f (a ∷ rest) id = if nat_eq a.id id then f a ∷ rest else a ∷ changed f rest id
 
 -- it had one command more
-abbrev pub pass_one : Attached → Attached
-pass_one a = record a { next = a.next + 1 }
+abbrev pub one_command_more : Attached → Attached
+one_command_more a = record a { next = a.next + 1 }
 
-abbrev pub passed : List Attached → ℕ → List Attached
-passed sessions id = changed pass_one sessions id
+abbrev pub command_counted : List Attached → ℕ → List Attached
+command_counted sessions id = changed one_command_more sessions id
 
 -- it was told its first condition, which is pending no more
 abbrev pub tell_one : Attached → Attached

@@ -7,8 +7,8 @@ ghost use Rattle.unit_control.specs.State.{preferred};
 use crate::records::{LastSave, same_record};
 use crate::row::Row;
 use crate::sessions::{
-    Attached, MOST_SESSIONS, Sender, SessionId, end, hear_all, hear_change_all, pass_at, place_of,
-    replace, reset, staying, tell_at,
+    Attached, MOST_SESSIONS, Sender, SessionId, count_command_at, end, hear_all, hear_change_all,
+    place_of, replace, reset, staying, tell_at,
 };
 use access_states::AccessMap;
 use aptpl_file::SaveFault;
@@ -102,7 +102,7 @@ impl Control {
     ghost use Rattle.scsi_types.specs.Nexus.{Nexus};
     ghost use Rattle.unit_control.specs.State.{opening_control};
     ghost use Rattle.unit_control.specs.Entry.{Attach, Detach, Reset, HasRoom, IsAttached, control_after};
-    ghost use Rattle.unit_control.specs.Entry.{count_one, pass};
+    ghost use Rattle.unit_control.specs.Entry.{count_command, count_one};
     ghost use Rattle.unit_control.specs.Groups.{with_access};
     ghost use Rattle.unit_control.specs.Places.{Stays, StaysAll};
     ghost use Rattle.unit_control.specs.Refusal.{is_let, tell};
@@ -404,14 +404,14 @@ impl Control {
     }
 
     /// Counts one command more of a session.
-    pub fn pass(&mut self, sender: Sender)
+    pub fn count_command(&mut self, sender: Sender)
         requires place { IsPlaceOf self.old.sessions sender.session sender.at }
         requires room { self.old.count < LAST_COUNT }
-        ensures passed { self.new ≡ pass self.old sender.session }
+        ensures counted { self.new ≡ count_command self.old sender.session }
         ensures total { self.new.total ≡ self.old.total }
         ensures lasting { self.new.lasting ≡ self.old.lasting }
     {
-        pass_at(&mut self.sessions, sender.at);
+        count_command_at(&mut self.sessions, sender.at);
         self.count += 1;
     }
 }

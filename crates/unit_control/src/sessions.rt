@@ -3,8 +3,8 @@ ghost use Rattle.std.specs.Prelude.{◌≡◌, ◌<◌, ◌++◌, ◌-◌, ◌^�
 ghost use Rattle.std.specs.Prelude.{MatchOption};
 ghost use Rattle.std.specs.Prelude.{vec_capacity};
 ghost use Rattle.unit_control.specs.Places.{IsChangedAt, IsPlaceOf};
-ghost use Rattle.unit_control.specs.Sessions.{all_reset, ended, heard_reset, is_of, nexus_of, pass_one, session_of};
-ghost use Rattle.unit_control.specs.Sessions.{tell_one, without};
+ghost use Rattle.unit_control.specs.Sessions.{all_reset, ended, heard_reset, is_of, nexus_of, one_command_more};
+ghost use Rattle.unit_control.specs.Sessions.{session_of, tell_one, without};
 ghost use Rattle.reservations.specs.Notice.{tellings};
 ghost use Rattle.unit_control.specs.Groups.{hear_change};
 ghost use Rattle.unit_control.specs.Reserve.{all_heard, hear};
@@ -49,10 +49,10 @@ pub fn place_of(sessions: &[Attached], id: SessionId) -> Option<usize>
 }
 
 /// Counts one command more of the session at a place.
-pub fn pass_at(sessions: &mut Vec<Attached>, at: usize)
+pub fn count_command_at(sessions: &mut Vec<Attached>, at: usize)
     requires place { at < length sessions.old.items }
     requires room { IfSome (slice_get sessions.old.items at) (λ a. a.next < 2 ^ 64 - 1) }
-    ensures passed { IsChangedAt pass_one sessions.old.items at sessions.new.items }
+    ensures counted { IsChangedAt one_command_more sessions.old.items at sessions.new.items }
     ensures capacity { vec_capacity sessions.new ≡ vec_capacity sessions.old }
 {
     let attached = &mut sessions[at];

@@ -19,20 +19,20 @@ use Rattle.unit_control.specs.Groups.{after_change, change_heard, hear_change, i
 use Rattle.unit_control.proofs.GroupsLaws.{change_keeps}
 use Rattle.unit_control.specs.Refusal.{Request, request, refusal}
 use Rattle.unit_control.specs.Reserve.{all_heard, after_effect, after_saved, effect_by, hear, pr_out}
-use Rattle.unit_control.specs.Sessions.{next_of, passed, told}
+use Rattle.unit_control.specs.Sessions.{next_of, command_counted, told}
 use Rattle.unit_control.specs.Entry.{Command, IsNext, control_with, control_after, left_asked, left_groups}
 
 -- the serial of a session that had one command more
-pub next_passed : (sessions : List Attached) (id serial : ℕ) → next_of sessions id ≡ Some serial
-    → next_of (passed sessions id) id ≡ Some (serial + 1)
-next_passed [] id serial h = absurd (cc)
-next_passed (a ∷ rest) id serial h =
+pub next_counted : (sessions : List Attached) (id serial : ℕ) → next_of sessions id ≡ Some serial
+    → next_of (command_counted sessions id) id ≡ Some (serial + 1)
+next_counted [] id serial h = absurd (cc)
+next_counted (a ∷ rest) id serial h =
     ⊎_elim
     (λ (t : (nat_eq a.id id ≡ true) × (a.id ≡ id)).
     let here : Some a.next ≡ Some serial = rw t.0 at h in
     let e : a.next ≡ serial = cc in
     rw t.0 (rw t.0 (ap (λ (m : ℕ). let o : Option ℕ = Some (m + 1) in o) e)))
-    (λ (f : (nat_eq a.id id ≡ false) × (a.id ≢ id)). rw f.0 (rw f.0 (next_passed rest id serial (rw f.0 at h))))
+    (λ (f : (nat_eq a.id id ≡ false) × (a.id ≢ id)). rw f.0 (rw f.0 (next_counted rest id serial (rw f.0 at h))))
     (eqb_tells a.id id)
 
 -- ---- serials that stay
@@ -214,7 +214,7 @@ module _ (c : ControlValue) (session serial : ℕ) (by_group : Group) (asked : R
       → next_of (control_after c (Command session serial by_group asked bytes choice)).sessions session
       ≡ Some (serial + 1)
   next_after is =
-      next_passed (control_with (refusal c r) c r choice).sessions session serial
+      next_counted (control_with (refusal c r) c r choice).sessions session serial
       (next_kept (refusal c r) c r choice ∙ is.next)
 
   -- and the history has one entry more

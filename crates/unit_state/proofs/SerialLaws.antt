@@ -10,7 +10,7 @@ use Rattle.scsi_types.specs.declared.command.Command.{Command as ScsiCommand}
 use Rattle.scsi_types.specs.declared.command.CdbFault.{CdbFault}
 use Rattle.unit_control.specs.declared.sessions.Attached.{Attached}
 use Rattle.unit_control.specs.State.{ControlValue, UnitState}
-use Rattle.unit_control.specs.Sessions.{attached, ended, heard_reset, is_of, next_of, passed, without}
+use Rattle.unit_control.specs.Sessions.{attached, ended, heard_reset, is_of, next_of, command_counted, without}
 use Rattle.unit_control.specs.Choice.{Choice}
 use Rattle.unit_control.specs.Groups.{move_by}
 use Rattle.unit_control.specs.Refusal.{Request, request, refusal}
@@ -146,44 +146,45 @@ other_slots past e session (p ∷ rest) others none slots =
 
 -- ---- a command of a session
 
-passed_absent : (xs : List Attached) (session id : ℕ) → serial_in (serials xs) id ≡ None
-    → serial_in (serials (passed xs session)) id ≡ None
-passed_absent [] session id none = refl
-passed_absent (a ∷ xs) session id none =
+counted_absent : (xs : List Attached) (session id : ℕ) → serial_in (serials xs) id ≡ None
+    → serial_in (serials (command_counted xs session)) id ≡ None
+counted_absent [] session id none = refl
+counted_absent (a ∷ xs) session id none =
     let other = absent_behind (a.id, a.next) (serials xs) id none in
     ⊎_elim
     (λ (t : (nat_eq a.id session ≡ true) × (a.id ≡ session)).
     rw t.0 (absent_front (a.id, a.next + 1) (serials xs) id other.0 other.1))
     (λ (f : (nat_eq a.id session ≡ false) × (a.id ≢ session)).
-    rw f.0 (absent_front (a.id, a.next) (serials (passed xs session)) id other.0 (passed_absent xs session id other.1)))
+    rw f.0 (absent_front (a.id, a.next) (serials (command_counted xs session)) id other.0
+    (counted_absent xs session id other.1)))
     (eqb_tells a.id session)
 
-slot_passed : (past : List Entry) (e : Entry) (id next : ℕ) (rest : List (ℕ × ℕ)) → is_command_of id e ≡ true
+slot_counted : (past : List Entry) (e : Entry) (id next : ℕ) (rest : List (ℕ × ℕ)) → is_command_of id e ≡ true
     → IsSlot past (id, next) rest → IsSlot (past ++ e ∷ []) (id, next + 1) rest
-slot_passed past e id next rest own slot =
+slot_counted past e id next rest own slot =
     let l = longer past e in
     let n = one_command id past e own in
     let m = slot.next in
     let b = slot.below in
     record { next = omega arith; below = omega arith; once = slot.once }
 
-passed_slots : (past : List Entry) (e : Entry) (session : ℕ) (xs : List Attached) → is_command_of session e ≡ true
+counted_slots : (past : List Entry) (e : Entry) (session : ℕ) (xs : List Attached) → is_command_of session e ≡ true
     → ((id : ℕ) → session ≢ id → is_command_of id e ≡ false) → AreSlots past (serials xs)
-    → AreSlots (past ++ e ∷ []) (serials (passed xs session))
-passed_slots past e session [] own others slots = tt
-passed_slots past e session (a ∷ xs) own others slots =
+    → AreSlots (past ++ e ∷ []) (serials (command_counted xs session))
+counted_slots past e session [] own others slots = tt
+counted_slots past e session (a ∷ xs) own others slots =
     ⊎_elim
     (λ (t : (nat_eq a.id session ≡ true) × (a.id ≡ session)).
     rw t.0 (
-      slot_passed past e a.id a.next (serials xs) (ap (λ (i : ℕ). is_command_of i e) t.1 ∙ own) slots.0,
+      slot_counted past e a.id a.next (serials xs) (ap (λ (i : ℕ). is_command_of i e) t.1 ∙ own) slots.0,
       other_slots past e session (serials xs) others
           (ap (λ (i : ℕ). serial_in (serials xs) i) (sym t.1) ∙ slots.0.once) slots.1,
     ))
     (λ (f : (nat_eq a.id session ≡ false) × (a.id ≢ session)).
     rw f.0 (
-      slot_longer past e (a.id, a.next) (serials xs) (serials (passed xs session)) (others a.id (λ h. f.1 (sym h)))
-          (passed_absent xs session a.id slots.0.once) slots.0,
-      passed_slots past e session xs own others slots.1,
+      slot_longer past e (a.id, a.next) (serials xs) (serials (command_counted xs session))
+          (others a.id (λ h. f.1 (sym h))) (counted_absent xs session a.id slots.0.once) slots.0,
+      counted_slots past e session xs own others slots.1,
     ))
     (eqb_tells a.id session)
 
@@ -271,7 +272,7 @@ command_numbers past c session serial by_group asked bytes choice next k =
     let below = there.1 in
     record {
       count = omega arith;
-      slots = passed_slots past e session left.sessions (own_command session) (others_command session)
+      slots = counted_slots past e session left.sessions (own_command session) (others_command session)
           (subst (λ (ps : List (ℕ × ℕ)). AreSlots past ps) (sym (serials_kept (refusal c r) c r choice)) k.slots);
       none = λ id le.
           none_longer past e id (others_command session id (λ h. absurd (omega (arith, h, below, le, l)))) (k.none id) le;

@@ -18,7 +18,7 @@ use Rattle.unit_control.specs.Choice.{Choice, Fine, choice_of}
 use Rattle.unit_control.specs.Medium.{Work}
 use Rattle.unit_control.specs.Refusal.{Request, request, refusal, refusal_reply, refusal_control}
 use Rattle.unit_control.specs.Route.{IsAdmitted, IsRefused}
-use Rattle.unit_control.specs.Entry.{Entry, Command, IsNext, pass}
+use Rattle.unit_control.specs.Entry.{Entry, Command, IsNext, count_command}
 use Rattle.unit_control.specs.Answer.{IsAnswerWith, IsAnswer, IsServed, Lasts}
 use Rattle.unit_control.specs.Groups.{is_opening}
 use Rattle.unit_state.specs.Step.{IsStep, OnRefusal, asks_opener, MayTake, TakesMemory, entry_of}
@@ -71,7 +71,7 @@ served_ok claims old new session asked bytes command (Err e) is done = tt
 pub answered_step : (claims : Bool) (old mid new : UnitState) (session serial : ℕ) (by_group : Group)
     (asked : Result ScsiCommand CdbFault) (bytes : List ℕ) (reply : ReplyValue) → IsNext old.control session serial
     → by_group ≡ owner_of old.control.access → IsAnswer claims old mid (request session asked bytes) reply → new.blocks
-    ≡ mid.blocks → new.control ≡ pass mid.control session
+    ≡ mid.blocks → new.control ≡ count_command mid.control session
     → IsStep claims old new (entry_of session serial by_group asked bytes reply new) reply
 answered_step claims old mid new session serial by_group asked bytes reply next owner k same control =
     let last : new.control.lasting ≡ mid.control.lasting = ap (λ (c : ControlValue). c.lasting) control in
@@ -81,7 +81,7 @@ answered_step claims old mid new session serial by_group asked bytes reply next 
     subst (λ (choice : Choice). IsStep claims old new
     (Command session serial by_group asked bytes choice) reply) chose (record {
       possible = record { next = next; owner = owner; chosen = k.chosen; torn = k.torn };
-      control = control ∙ ap (λ (c : ControlValue). pass c session) k.control;
+      control = control ∙ ap (λ (c : ControlValue). count_command c session) k.control;
       blocks = λ h. same ∙ k.blocks h;
       answer = k.answer;
     })

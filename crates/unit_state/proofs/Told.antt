@@ -18,10 +18,10 @@ use Rattle.unit_control.specs.declared.sessions.Attached.{Attached}
 use Rattle.unit_control.specs.State.{ControlValue}
 use Rattle.unit_control.specs.Choice.{Choice}
 use Rattle.unit_control.specs.Sessions.{session_of, sender_of, nexus_in, next_of, pending_in, pending_of}
-use Rattle.unit_control.specs.Sessions.{pass_one, passed, tell_one, told, ended, heard_reset, all_reset}
+use Rattle.unit_control.specs.Sessions.{one_command_more, command_counted, tell_one, told, ended, heard_reset, all_reset}
 use Rattle.unit_control.specs.Refusal.{Request, refusal}
 use Rattle.unit_control.specs.Entry.{IsNext, control_with}
-use Rattle.unit_state.proofs.CommandLaws.{next_passed, next_kept}
+use Rattle.unit_state.proofs.CommandLaws.{next_counted, next_kept}
 use Rattle.unit_control.proofs.GroupsLaws.{change_keeps}
 use Rattle.unit_control.specs.Groups.{change_heard, hear_change}
 use Rattle.unit_control.proofs.Places.{session_changed, session_mapped, has_id}
@@ -30,28 +30,30 @@ use Rattle.unit_control.proofs.Places.{session_changed, session_mapped, has_id}
 
 -- a serial that was taken is not taken again
 pub taken_once : (c : ControlValue) (r : Request) (choice : Choice) (serial : ℕ) → IsNext c r.session serial
-    → next_of (passed (control_with (refusal c r) c r choice).sessions r.session) r.session ≡ Some serial → ⊥
+    → next_of (command_counted (control_with (refusal c r) c r choice).sessions r.session) r.session ≡ Some serial → ⊥
 taken_once c r choice serial is again =
-    let once : next_of (passed (control_with (refusal c r) c r choice).sessions r.session) r.session ≡ Some (serial + 1) =
-    next_passed (control_with (refusal c r) c r choice).sessions r.session serial
+    let once : next_of (command_counted (control_with (refusal c r) c r choice).sessions r.session) r.session
+    ≡ Some (serial + 1) =
+    next_counted (control_with (refusal c r) c r choice).sessions r.session serial
     (next_kept (refusal c r) c r choice ∙ is.next) in
     let same : serial ≡ serial + 1 = cc in
     omega arith
 
 -- ---- attentions
 
-pending_told_in : (old mid new : Option Attached) → mid ≡ option_map tell_one old → new ≡ option_map pass_one mid
+pending_told_in : (old mid new : Option Attached) → mid ≡ option_map tell_one old → new ≡ option_map one_command_more mid
     → pending_in new ≡ drop 1 (pending_in old)
 pending_told_in None mid new is then_is = rw (then_is, is) refl
 pending_told_in (Some a) mid new is then_is = rw (then_is, is) refl
 
 -- a session that was told its first attention has the others
 pub pending_told : (sessions : List Attached) (id : ℕ)
-    → pending_of (passed (told sessions id) id) id ≡ drop 1 (pending_of sessions id)
+    → pending_of (command_counted (told sessions id) id) id ≡ drop 1 (pending_of sessions id)
 pending_told sessions id =
     pending_told_in (session_of sessions id) (session_of (told sessions id) id)
-    (session_of (passed (told sessions id) id) id)
-    (session_changed tell_one (λ a. refl) sessions id) (session_changed pass_one (λ a. refl) (told sessions id) id)
+    (session_of (command_counted (told sessions id) id) id)
+    (session_changed tell_one (λ a. refl) sessions id)
+    (session_changed one_command_more (λ a. refl) (told sessions id) id)
 
 pub told_no_more : (codes : List UnitAttention) (attention : UnitAttention) → IsTrue (without_repeats codes)
     → slice_get codes 0 ≡ Some attention → is_pending (drop 1 codes) attention ≡ false

@@ -33,7 +33,7 @@ ghost use Rattle.unit_control.specs.Choice.{Choice, Fine, OpenFailed, SaveFailed
 ghost use Rattle.unit_control.specs.Groups.{is_any_changed, with_access};
 ghost use Rattle.unit_control.specs.Refusal.{refusal, request};
 ghost use Rattle.unit_control.specs.Entry.{Entry, Attach, Command, Detach, Reset, IsPossible, IsNext, after, blocks_after};
-ghost use Rattle.unit_control.specs.Entry.{control_after, pass, reply_to};
+ghost use Rattle.unit_control.specs.Entry.{control_after, count_command, reply_to};
 ghost use Rattle.unit_state.specs.History.{state_after, IsLegal, IsReplyAt, reply_at, failed_entries, has_failed};
 ghost use Rattle.unit_state.specs.Serials.{IsNumbered, IsOpening};
 ghost use Rattle.scsi_types.specs.Nexus.{Nexus};
@@ -146,7 +146,7 @@ pub fn a_group_serves_what_its_state_lets()
     ensures control { (s : UnitState) (session serial : ℕ) (by : Group) (asked : Result ScsiCommand CdbFault)
         (bytes : List ℕ) (op : Op) (sense : Sense)
         → IsUnserved s.control session asked op sense
-        → control_after s.control (Command session serial by asked bytes Fine) ≡ pass s.control session }
+        → control_after s.control (Command session serial by asked bytes Fine) ≡ count_command s.control session }
 {}
 
 /// A command that the reservation does not let its nexus do is RESERVATION CONFLICT and does nothing: where nothing is to
@@ -163,7 +163,7 @@ pub fn a_reservation_keeps_others_out()
     ensures control { (s : UnitState) (session serial : ℕ) (by : Group) (asked : Result ScsiCommand CdbFault)
         (bytes : List ℕ) (op : Op)
         → IsKeptOut s.control session asked op
-        → control_after s.control (Command session serial by asked bytes Fine) ≡ pass s.control session }
+        → control_after s.control (Command session serial by asked bytes Fine) ≡ count_command s.control session }
 {}
 
 /// Who sends a PERSISTENT RESERVE OUT is to be told nothing more by what it does (SPC-4, 5.13.11).
@@ -202,7 +202,7 @@ pub fn a_failed_open_changes_nothing()
     ensures control { (c : ControlValue) (session serial : ℕ) (by : Group) (list_length : ℕ) (bytes : List ℕ)
         → refusal c (request session (Ok (SetTargetPortGroups list_length)) bytes) ≡ None
         → control_after c (Command session serial by (Ok (SetTargetPortGroups list_length)) bytes OpenFailed)
-        ≡ pass c session }
+        ≡ count_command c session }
     ensures reply { (s : UnitState) (session serial : ℕ) (by : Group) (list_length : ℕ) (bytes : List ℕ)
         → refusal s.control (request session (Ok (SetTargetPortGroups list_length)) bytes) ≡ None
         → reply_to s (Command session serial by (Ok (SetTargetPortGroups list_length)) bytes OpenFailed)
@@ -226,7 +226,7 @@ pub fn a_failed_save_changes_nothing_else()
         (scope kind list_length : ℕ) (bytes : List ℕ) (after : List RecordValue)
         → refusal c (request session (Ok (PersistentReserveOut action scope kind list_length)) bytes) ≡ None
         → control_after c (Command session serial by (Ok (PersistentReserveOut action scope kind list_length)) bytes
-        (SaveFailed after)) ≡ pass (with_doubt c after) session }
+        (SaveFailed after)) ≡ count_command (with_doubt c after) session }
     ensures reply { (s : UnitState) (session serial : ℕ) (by : Group) (action : PrOutAction)
         (scope kind list_length : ℕ) (bytes : List ℕ) (after : List RecordValue)
         → refusal s.control (request session (Ok (PersistentReserveOut action scope kind list_length)) bytes) ≡ None

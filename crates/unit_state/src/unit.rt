@@ -261,7 +261,7 @@ impl<B: Blocks, F: Blocks, O: Opener<B>> Unit<B, F, O> {
             Ok(reply) => reply,
             Err(NoMemory) => return StepEnd::NoMemory,
         };
-        self.control.pass(sender);
+        self.control.count_command(sender);
         StepEnd::Reply(reply)
     }
 

@@ -10,7 +10,7 @@ pub returns-clause-entry : goal.returns-clause-entry
 returns-clause-entry g c =
     step_seen _ g.B.Blocks.contents _ _ _ _ _ c.self.view_is
     (answered_step _ _ _ _ _ _ _ _ _ _ c.in-At.ensures.0 c.in-At.ensures.1 c.in-Ok.ensures.answered refl
-    c.pass.ensures.passed)
+    c.count_command.ensures.counted)
 
 pub returns-in-Err-clause-memory : goal.returns-in-Err-clause-memory
 returns-in-Err-clause-memory g c = λ h. memory_seen _ _ _ c.self.view_is c.in-Err.ensures.memory
@@ -32,13 +32,13 @@ returns-in-Err-clause-restart g c =
 pub returns-clause-restart : goal.returns-clause-restart
 returns-clause-restart g c =
     λ h. restarts g.F.Blocks.size g.F.Blocks.may_hold _ _ _
-    (c.in-Ok.ensures.kept h (c.self.invariant.1 h)) c.pass.ensures.lasting
+    (c.in-Ok.ensures.kept h (c.self.invariant.1 h)) c.count_command.ensures.lasting
 
 pub returns-clause-left : goal.returns-clause-left
 returns-clause-left g c =
     step_left g.B.Blocks.claims_moments g.B.Blocks.moment g.B.Blocks.left_since g.B.Blocks.size g.B.Blocks.may_hold _ g.B.Blocks.contents _ _
     (request c.args.session c.args.asked c.args.bytes.now) (work_asked c.args.asked c.args.bytes.now) c.in-Ok.reply _ _ _
-    c.self.view_is c.pass.ensures.lasting c.in-Ok.ensures.left
+    c.self.view_is c.count_command.ensures.lasting c.in-Ok.ensures.left
 
 pub returns-in-Gone-clause-same : goal.returns-in-Gone-clause-same
 returns-in-Gone-clause-same g c = λ none h. as_before g.B.Blocks.claims_moments g.B.Blocks.moment g.B.Blocks.left_since g.B.Blocks.size g.B.Blocks.may_hold _ _ refl
