@@ -4,7 +4,7 @@ use Rattle.access_states.specs.AccessMap.{owner_of}
 use Rattle.registrants.specs.Kind.{type_code}
 use Rattle.registrants.specs.Registry.{reserved_type}
 use Rattle.registrants.specs.declared.kind.ReservationType.{ReservationType}
-use Rattle.unit_control.specs.declared.row.Row.{Row}
+use Rattle.unit_control.specs.declared.row.UnitRow.{UnitRow}
 use Rattle.unit_control.specs.State.{ControlValue}
 
 -- the type of a reservation by its code, and 0 where there is none
@@ -12,7 +12,7 @@ abbrev pub kind_shown : Option ReservationType → ℕ
 kind_shown None = 0
 kind_shown (Some kind) = type_code kind
 
-abbrev pub row_of : ControlValue → Row
+abbrev pub row_of : ControlValue → UnitRow
 row_of c =
     record {
       entries = c.count;

@@ -5,7 +5,7 @@ ghost use Rattle.unit_control.specs.Places.{IsPlaceOf};
 ghost use Rattle.unit_control.specs.State.{preferred};
 
 use crate::records::{LastSave, same_record};
-use crate::row::Row;
+use crate::row::UnitRow;
 use crate::sessions::{
     Attached, MOST_SESSIONS, Sender, SessionId, count_command_at, end, hear_all, hear_change_all,
     place_of, replace, reset, staying, tell_at,
@@ -232,10 +232,10 @@ impl Control {
     }
 
     /// What the status board shows of it.
-    pub fn row(&self) -> Row
+    pub fn row(&self) -> UnitRow
         ensures { result ≡ row_of self.now }
     {
-        Row {
+        UnitRow {
             entries: self.count,
             owner: self.access.owner(),
             states: [self.access.state(Group::One), self.access.state(Group::Two)],

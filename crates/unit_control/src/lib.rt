@@ -14,5 +14,5 @@ mod sessions;
 
 pub use control::{AttachFault, Control, Gone, Route};
 pub use refusal::Refusal;
-pub use row::Row;
+pub use row::UnitRow;
 pub use sessions::{Sender, SessionId};

@@ -4,7 +4,7 @@ use scsi_types::Group;
 
 /// What the status board shows of a unit: it says nothing of its blocks.
 #[derive(Clone, Copy, Debug, PartialEq, Eq)]
-pub struct Row {
+pub struct UnitRow {
     /// How many entries its history has.
     pub entries: u64,
     /// The group that owns it.

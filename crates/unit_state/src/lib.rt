@@ -9,4 +9,4 @@ mod rules;
 mod unit;
 
 pub use unit::{MoveFault, StepEnd, Unit};
-pub use unit_control::{AttachFault, Gone, Row, SessionId};
+pub use unit_control::{AttachFault, Gone, SessionId, UnitRow};

@@ -14,7 +14,7 @@ use std::alloc::Global;
 use std::marker::Model;
 use thiserror::Error;
 use unit_control::groups::change;
-use unit_control::{AttachFault, Control, Gone, Route, Row, Sender, SessionId};
+use unit_control::{AttachFault, Control, Gone, Route, Sender, SessionId, UnitRow};
 
 /// What a step ended with. Only `Reply` is an entry of the unit's history; the others change nothing.
 #[derive(Debug, Drop)]
@@ -167,7 +167,7 @@ impl<B: Blocks, F: Blocks, O: Opener<B>> Unit<B, F, O> {
     }
 
     /// What the status board shows of the unit.
-    pub fn row(&self) -> Row
+    pub fn row(&self) -> UnitRow
         ensures { result ≡ row_of self.now.control }
     {
         self.control.row()

@@ -7,14 +7,14 @@ use std::alloc::Global;
 use std::process::Abort;
 use std::test::Fail;
 use unit_events::Job;
-use unit_state::Row as Board;
+use unit_state::UnitRow;
 use world::{Note, Stage, What};
 
 /// What is seen of a world behind a row: what was noted, what the units show, and how the sessions stand.
 #[derive(Drop)]
 struct Seen {
     notes: Vec<Noted>,
-    boards: [Option<Board>; 2],
+    boards: [Option<UnitRow>; 2],
     sessions: Vec<Stands>,
 }
 
@@ -73,7 +73,7 @@ fn sessions_of(alloc: Global, world: &MemWorld) -> Result<Vec<Stands>, Fail> {
     Ok(seen)
 }
 
-fn board(world: &MemWorld, place: usize) -> Option<Board> {
+fn board(world: &MemWorld, place: usize) -> Option<UnitRow> {
     match world.unit(place) {
         Some(unit) => Some(unit.row()),
         None => None,
@@ -89,7 +89,7 @@ fn look(alloc: Global, world: &MemWorld, before: usize) -> Result<Seen, Fail> {
 }
 
 // A unit has so many entries. Where it had as many before, it shows what it showed.
-fn is_unit(before: Option<Board>, after: Option<Board>, entries: u64) -> bool {
+fn is_unit(before: Option<UnitRow>, after: Option<UnitRow>, entries: u64) -> bool {
     let (Some(before), Some(after)) = (before, after) else {
         return false;
     };
