@@ -1,6 +1,5 @@
 -- The access change: what becomes of the access states where a list is set (SPC-4, 5.15.2.7, 5.15.2.8 and 6.45).
 use Rattle.std.specs.Prelude.{Bool, false, not, ◌&&◌, if◌then◌else◌, List, [], ◌∷◌, ℕ, Option, Some, None, Result, Ok, Err}
-use Rattle.std.specs.List.{list_any}
 use Rattle.scsi_types.specs.Sense.{parameter_list_length_error, invalid_field_in_parameter_list}
 use Rattle.scsi_types.specs.declared.names.Group.{Group}
 use Rattle.scsi_types.specs.declared.names.Group.TheVariants.{One, Two}
@@ -72,7 +71,3 @@ change_between old new =
       changed = is_changed old new One ∷ is_changed old new Two ∷ [];
       owner = new_owner (owner_of old) (owner_of new);
     }
-
--- the state of some group is another
-abbrev pub is_any_change : Change → Bool
-is_any_change change = list_any (λ (changed : Bool). changed) change.changed
