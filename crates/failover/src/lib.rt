@@ -15,10 +15,11 @@ use block_file::{Blocks, Opener};
 pub use mover::{GroupsList, Mover, Moves};
 use scsi_types::Group;
 use std::sync::Wait;
+pub use unit_control::preferred;
 use unit_history::{LegalHistory, Opened};
 use unit_sequence::Array;
 use unit_state::MoveFault;
-pub use up::{bring_up, preferred};
+pub use up::bring_up;
 
 /// A unit did not move.
 #[derive(Clone, Copy, PartialEq, Eq)]

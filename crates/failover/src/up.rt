@@ -1,24 +1,13 @@
 //! Moves by which a controller comes up again.
 ghost use Rattle.std.specs.Prelude.{◌≡◌, ◌<◌, [], IfOk, IfErr};
 ghost use Rattle.failover.specs.Up.{AreUp, IsStoppedUp, up_list};
-ghost use Rattle.unit_control.specs.State.{preferred};
 
 use crate::NotMoved;
 use crate::mover::{GroupsList, Moves};
 use array_units::MOST_UNITS;
 use scsi_types::Group;
 use std::sync::Wait;
-
-/// The group that the unit at a place prefers: the units of even number prefer the first (SPC-4, 5.15.2.1).
-pub fn preferred(place: usize) -> Group
-    ensures { result ≡ preferred place }
-{
-    if place % 2 == 0 {
-        Group::One
-    } else {
-        Group::Two
-    }
-}
+use unit_control::preferred;
 
 /// The parameter list by which a unit that prefers this group is as it opens (SPC-4, 6.45): that group becomes active/optimized,
 /// and the other active/non-optimized.

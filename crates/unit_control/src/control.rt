@@ -128,7 +128,7 @@ impl Control {
         Ok(Control {
             place,
             total,
-            access: AccessMap::opening(preferred(place.unit)),
+            access: AccessMap::opening(preferred(place.unit as usize)),
             registry,
             save: LastSave::Done,
             landed,
@@ -280,7 +280,7 @@ impl Control {
     pub fn preferred(&self) -> Group
         ensures { result ≡ preferred self.now.place.unit }
     {
-        preferred(self.place.unit)
+        preferred(self.place.unit as usize)
     }
 
     /// The group by which a session's commands come.
@@ -416,8 +416,8 @@ impl Control {
     }
 }
 
-/// The group that a unit prefers: the units of even number prefer the first (SPC-4, 5.15.2.1).
-fn preferred(unit: u8) -> Group
+/// The group that the unit of a number prefers: the units of even number prefer the first (SPC-4, 5.15.2.1).
+pub fn preferred(unit: usize) -> Group
     ensures { result ≡ preferred unit }
 {
     if unit % 2 == 0 {

@@ -12,7 +12,7 @@ mod row;
 pub mod saving;
 mod sessions;
 
-pub use control::{AttachFault, Control, Gone, Route};
+pub use control::{AttachFault, Control, Gone, Route, preferred};
 pub use refusal::Refusal;
 pub use row::UnitRow;
 pub use sessions::{Sender, SessionId};
