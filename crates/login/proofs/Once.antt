@@ -10,17 +10,17 @@ use Rattle.login.specs.Refusal.{flags_rule, checks_of_first, checks_of_later, ch
 use Rattle.login.specs.Refusal.{length_rule, form_rule, repeated_rule, name_rule, initiator_rule, kind_rule}
 use Rattle.login.specs.Refusal.{target_rule, other_target_rule, session_rule, authentication_rule, kind_of}
 use Rattle.login.specs.Request.{after, after_by, passed, response, group_text, length_text, tells_length, kind_after}
-use Rattle.login.specs.declared.status.Kind.{Kind}
+use Rattle.login.specs.declared.status.SessionType.{SessionType}
 use Rattle.login.specs.declared.status.LoginFlags.{LoginFlags}
 use Rattle.login.specs.declared.status.Stop.{Stop}
 use Rattle.login.specs.declared.status.Stop.TheVariants.{Refused}
 use Rattle.login.specs.declared.status.LoginStatus.TheVariants.{SessionTypeNotSupported}
 
 -- the tag is not said where the session type is known
-pub no_tag : (s : Progress) (f : LoginFlags) (ps : List Pair) (kind : Kind) → s.kind ≡ Some kind
+pub no_tag : (s : Progress) (f : LoginFlags) (ps : List Pair) (kind : SessionType) → s.kind ≡ Some kind
     → response s f ps ≡ length_text (tells_length s f) ++ answers ps
-no_tag s f ps kind e = ap (λ (k : Option Kind). group_text s.tag k (kind_after k ps) ++ length_text (tells_length s f)
-    ++ answers ps) e
+no_tag s f ps kind e =
+    ap (λ (k : Option SessionType). group_text s.tag k (kind_after k ps) ++ length_text (tells_length s f) ++ answers ps) e
 
 pub no_length : (s : Progress) (f : LoginFlags) → s.declared ≡ true → tells_length s f ≡ false
 no_length s f e = ap (λ (b : Bool). not b && f.current_stage == 1) e
@@ -37,7 +37,7 @@ pub behind : (rule : Rule) (rules : List Rule) (s : Progress) (f : LoginFlags) (
     → first_stop (rule ∷ rules) s f t ≡ None → first_stop rules s f t ≡ None
 behind rule rules s f t h = rest_none (rule s f t) (first_stop rules s f t) h
 
-when_none : (kind : Option Kind) (stop : Stop) → when (is_none kind) stop ≡ None → IsSome kind
+when_none : (kind : Option SessionType) (stop : Stop) → when (is_none kind) stop ≡ None → IsSome kind
 when_none None stop h = cc
 when_none (Some k) stop h = search rules
 
@@ -53,7 +53,7 @@ kind_known s f t h =
     let g = behind initiator_rule (kind_rule ∷ later) s f t e in
     when_none (kind_of (pairs t)) (Refused SessionTypeNotSupported) (first_none (kind_rule s f t) (first_stop later s f t) g)
 
-kind_after_known : (kind : Option Kind) (ps : List Pair) → (is_none kind ≡ true → IsSome (kind_of ps))
+kind_after_known : (kind : Option SessionType) (ps : List Pair) → (is_none kind ≡ true → IsSome (kind_of ps))
     → IsSome (kind_after kind ps)
 kind_after_known None ps h = h refl
 kind_after_known (Some k) ps h = search rules

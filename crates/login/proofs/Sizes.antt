@@ -16,8 +16,8 @@ use Rattle.login.specs.Progress.{Progress}
 use Rattle.login.specs.Refusal.{is_too_long}
 use Rattle.login.specs.Request.{response, group_text, length_text, tells_length, kind_after}
 use Rattle.login.specs.declared.key.Key.{Key}
-use Rattle.login.specs.declared.status.Kind.{Kind}
-use Rattle.login.specs.declared.status.Kind.TheVariants.{Normal, Discovery}
+use Rattle.login.specs.declared.status.SessionType.{SessionType}
+use Rattle.login.specs.declared.status.SessionType.TheVariants.{Normal, Discovery}
 use Rattle.login.specs.declared.status.LoginFlags.{LoginFlags}
 use Rattle.login.specs.declared.value.Word.{Word}
 use Rattle.login.specs.declared.value.Word.TheVariants.{Unused, Rfc3720}
@@ -177,7 +177,7 @@ answers_short text =
     all_short parts (count_by (is_byte 0) text) (length-slice_split (is_byte 0) text) in
     omega (arith, h, ap length (join_with_byte-slice_split 0 text))
 
-group_short : (tag : ℕ) (before now : Option Kind) → tag < 65536 → length (group_text tag before now) ≤ 27
+group_short : (tag : ℕ) (before now : Option SessionType) → tag < 65536 → length (group_text tag before now) ≤ 27
 group_short tag None (Some Normal) h =
     let k : length (decimal tag) ≤ 5 = length-decimal-le 5 tag (omega arith) (omega arith) (omega arith) in
     omega (arith, length-append (decimal tag) (0 ∷ []))

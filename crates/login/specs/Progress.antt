@@ -1,6 +1,6 @@
 -- How far a login has come (RFC 7143, 6.3).
 use Rattle.std.specs.Prelude.{ℕ, Bool, false, List, [], Option, None}
-use Rattle.login.specs.declared.status.Kind.{Kind}
+use Rattle.login.specs.declared.status.SessionType.{SessionType}
 
 pub record Progress : Type 0 where
   -- the target's own name, and the tag of the portal group by which the login came
@@ -9,7 +9,7 @@ pub record Progress : Type 0 where
   -- the current stage, once a request came
   pub stage : Option ℕ
   -- the session type, once the first request was answered
-  pub kind : Option Kind
+  pub kind : Option SessionType
   -- whether the target has declared its MaxRecvDataSegmentLength
   pub declared : Bool
   -- the text of the requests that were answered

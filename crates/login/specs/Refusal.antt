@@ -11,8 +11,8 @@ use Rattle.login.specs.declared.status.LoginFlags.{LoginFlags}
 use Rattle.login.specs.declared.status.LoginStatus.TheVariants.{InitiatorError, AuthenticationFailure}
 use Rattle.login.specs.declared.status.LoginStatus.TheVariants.{NotFound, UnsupportedVersion}
 use Rattle.login.specs.declared.status.LoginStatus.TheVariants.{MissingParameter, SessionTypeNotSupported}
-use Rattle.login.specs.declared.status.Kind.{Kind}
-use Rattle.login.specs.declared.status.Kind.TheVariants.{Normal, Discovery}
+use Rattle.login.specs.declared.status.SessionType.{SessionType}
+use Rattle.login.specs.declared.status.SessionType.TheVariants.{Normal, Discovery}
 use Rattle.login.specs.declared.status.Stop.{Stop}
 use Rattle.login.specs.declared.status.Stop.TheVariants.{Refused, NamesSession}
 
@@ -73,16 +73,16 @@ abbrev pub has_bad_name : List Pair → Bool
 has_bad_name ps = has_bad_length 1 (value_said Of.InitiatorName ps) || has_bad_length 0 (value_said Of.TargetName ps)
 
 -- the session type: Normal where nothing is said
-abbrev pub kind_said : Option (List ℕ) → Option Kind
+abbrev pub kind_said : Option (List ℕ) → Option SessionType
 kind_said None = Some Normal
 kind_said (Some value) =
     if bytes_eq value (codes "Normal") then Some Normal
     else (if bytes_eq value (codes "Discovery") then Some Discovery else None)
 
-abbrev pub kind_of : List Pair → Option Kind
+abbrev pub kind_of : List Pair → Option SessionType
 kind_of ps = kind_said (value_said Of.SessionType ps)
 
-abbrev pub needs_target : Option Kind → Bool
+abbrev pub needs_target : Option SessionType → Bool
 needs_target (Some Normal) = true
 needs_target (Some Discovery) = false
 needs_target None = false

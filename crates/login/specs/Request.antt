@@ -8,8 +8,8 @@ use Rattle.login.specs.Progress.{Progress}
 use Rattle.login.specs.Refusal.{stop_of, kind_of, value_said}
 use Rattle.login.specs.declared.key.Key.TheVariants as Of
 use Rattle.login.specs.declared.status.LoginFlags.{LoginFlags}
-use Rattle.login.specs.declared.status.Kind.{Kind}
-use Rattle.login.specs.declared.status.Kind.TheVariants.{Normal, Discovery}
+use Rattle.login.specs.declared.status.SessionType.{SessionType}
+use Rattle.login.specs.declared.status.SessionType.TheVariants.{Normal, Discovery}
 use Rattle.login.specs.declared.status.Stop.{Stop}
 use Rattle.login.specs.declared.negotiation.LoginEnd.{LoginEnd}
 use Rattle.login.specs.declared.negotiation.LoginEnd.TheVariants.{Answer, Accepted, Refused, NamesSession}
@@ -26,12 +26,12 @@ abbrev pub next_stage : LoginFlags → ℕ
 next_stage f = if f.transit then f.next_stage else f.current_stage
 
 -- the session type, as the first request said it
-abbrev pub kind_after : Option Kind → List Pair → Option Kind
+abbrev pub kind_after : Option SessionType → List Pair → Option SessionType
 kind_after (Some kind) ps = Some kind
 kind_after None ps = kind_of ps
 
 -- TargetPortalGroupTag, in the response of a normal session to its first request
-abbrev pub group_text : ℕ → Option Kind → Option Kind → List ℕ
+abbrev pub group_text : ℕ → Option SessionType → Option SessionType → List ℕ
 group_text tag None (Some Normal) = spelled (codes "TargetPortalGroupTag") (decimal tag)
 group_text tag None (Some Discovery) = []
 group_text tag None None = []
@@ -90,6 +90,6 @@ abbrev pub initiator_of : List Pair → List ℕ
 initiator_of ps = unwrap_or (value_said Of.InitiatorName ps) []
 
 -- the session type, Normal where none is said yet
-abbrev pub kind_in : Option Kind → Kind
+abbrev pub kind_in : Option SessionType → SessionType
 kind_in (Some kind) = kind
 kind_in None = Normal

@@ -5,8 +5,8 @@ use Rattle.std.specs.Net.Text.{socket_v4_text}
 use Rattle.std.specs.declared.net.SocketAddrV4.{SocketAddrV4}
 use Rattle.login.specs.Text.{Pair, is_byte, is_text, spelled}
 use Rattle.login.specs.Table.{key_named}
-use Rattle.login.specs.declared.status.Kind.{Kind}
-use Rattle.login.specs.declared.status.Kind.TheVariants.{Normal, Discovery}
+use Rattle.login.specs.declared.status.SessionType.{SessionType}
+use Rattle.login.specs.declared.status.SessionType.TheVariants.{Normal, Discovery}
 
 -- a portal, `a.b.c.d:port`, with the tag of its group
 unfoldable pub portal_text : ℕ → SocketAddrV4 → List ℕ
@@ -25,11 +25,11 @@ target_text target first second = spelled (codes "TargetName") target ++ address
 
 -- `All` is asked in a discovery session alone; the target's name, or an empty value for the session's own target, in
 -- each kind of session
-abbrev pub all_text : Kind → List ℕ → List ℕ
+abbrev pub all_text : SessionType → List ℕ → List ℕ
 all_text Discovery told = told
 all_text Normal told = spelled (codes "SendTargets") (codes "Reject")
 
-abbrev pub targets_text : List ℕ → Kind → List ℕ → List ℕ → List ℕ
+abbrev pub targets_text : List ℕ → SessionType → List ℕ → List ℕ → List ℕ
 targets_text target kind value told =
     if bytes_eq value target || length value == 0 then told
     else (if bytes_eq value (codes "All") then all_text kind told else [])
@@ -38,11 +38,11 @@ targets_text target kind value told =
 abbrev pub other_text : List ℕ → List ℕ
 other_text key = spelled key (if is_some (key_named key) then codes "Reject" else codes "NotUnderstood")
 
-unfoldable pub answer_of : List ℕ → Kind → List ℕ → List ℕ → List ℕ → List ℕ
+unfoldable pub answer_of : List ℕ → SessionType → List ℕ → List ℕ → List ℕ → List ℕ
 answer_of target kind told key value =
     if bytes_eq key (codes "SendTargets") then targets_text target kind value told else other_text key
 
-abbrev pub answers_of : List ℕ → Kind → List ℕ → List Pair → List ℕ
+abbrev pub answers_of : List ℕ → SessionType → List ℕ → List Pair → List ℕ
 answers_of target kind told [] = []
 answers_of target kind told (p ∷ ps) = answer_of target kind told p.key p.value ++ answers_of target kind told ps
 

@@ -3,14 +3,14 @@ use Rattle.std.specs.Prelude.{◌≡◌, ℕ, ◌+◌, ◌<◌, ◌≤◌, Bool,
 use Rattle.std.specs.declared.net.SocketAddrV4.{SocketAddrV4}
 use Rattle.login.specs.Text.{pairs}
 use Rattle.login.specs.Targets.{answers_of, is_bad_request, target_text}
-use Rattle.login.specs.declared.status.Kind.{Kind}
+use Rattle.login.specs.declared.status.SessionType.{SessionType}
 use Rattle.login.specs.declared.within.TextAnswer.{TextAnswer}
 use Rattle.login.specs.declared.within.TextAnswer.TheVariants as within
 use Rattle.login.specs.declared.targets.TextEnd.{TextEnd}
 use Rattle.login.specs.declared.targets.TextEnd.TheVariants.{Answer, Fault, NoMemory}
 
 -- a fault just where the text is none; else the answers to its pairs in order, unless memory was short
-abbrev pub IsTextEnd : TextEnd → List ℕ → Kind → List SocketAddrV4 → List SocketAddrV4 → List ℕ → Type 0
+abbrev pub IsTextEnd : TextEnd → List ℕ → SessionType → List SocketAddrV4 → List SocketAddrV4 → List ℕ → Type 0
 IsTextEnd (Answer answer) target kind first second text =
     (is_bad_request text ≡ false)
     × (answer.items ≡ answers_of target kind (target_text target first second) (pairs text))

@@ -6,7 +6,7 @@ ghost use Rattle.login.specs.Refusal.{has_bad_length, has_bad_name, kind_of, is_
 ghost use Rattle.login.specs.Table.{key_named};
 
 use crate::key::Key;
-use crate::status::{Kind, LoginFlags};
+use crate::status::{LoginFlags, SessionType};
 use crate::text::{first_pair, found};
 use crate::value::is_listed;
 
@@ -102,16 +102,16 @@ fn has_bad_length(least: usize, name: Option<&[u8]>) -> bool
 }
 
 /// The session type that a text asks for.
-pub fn kind_of(text: &[u8]) -> Option<Kind>
+pub fn kind_of(text: &[u8]) -> Option<SessionType>
     ensures { result ≡ kind_of (pairs text.now) }
 {
     match found(text, b"SessionType") {
-        None => Some(Kind::Normal),
+        None => Some(SessionType::Normal),
         Some(kind) => {
             if kind == b"Normal".as_slice() {
-                Some(Kind::Normal)
+                Some(SessionType::Normal)
             } else if kind == b"Discovery".as_slice() {
-                Some(Kind::Discovery)
+                Some(SessionType::Discovery)
             } else {
                 None
             }

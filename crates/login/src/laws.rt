@@ -8,7 +8,7 @@ ghost use Rattle.login.specs.Answer.{answers, verdict_of};
 ghost use Rattle.login.specs.Progress.{Progress};
 ghost use Rattle.login.specs.Refusal.{stop_of};
 ghost use Rattle.login.specs.Request.{after, response, length_text, tells_length};
-ghost use Rattle.login.specs.declared.status.Kind.{Kind};
+ghost use Rattle.login.specs.declared.status.SessionType.{SessionType};
 ghost use Rattle.login.specs.declared.status.LoginFlags.{LoginFlags};
 ghost use Rattle.login.specs.declared.value.Limits.{Limits as Bounds};
 ghost use Rattle.login.specs.declared.value.Rule.TheVariants.{Least, Greatest, Either, Both};
@@ -48,7 +48,7 @@ pub fn booleans_that_are_negotiated()
 pub fn what_the_target_says_once()
     ensures known { (s : Progress) (f : LoginFlags) (text : List ℕ) → stop_of s f (s.unfinished ++ text) ≡ None
         → f.continues ≡ false → IsSome (after s f text).kind }
-    ensures tag { (s : Progress) (f : LoginFlags) (ps : List Pair) (kind : Kind) → s.kind ≡ Some kind
+    ensures tag { (s : Progress) (f : LoginFlags) (ps : List Pair) (kind : SessionType) → s.kind ≡ Some kind
         → response s f ps ≡ length_text (tells_length s f) ++ answers ps }
     ensures length { (s : Progress) (f : LoginFlags) → s.declared ≡ true → tells_length s f ≡ false }
 {}

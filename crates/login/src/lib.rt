@@ -20,7 +20,7 @@ pub use laws::{
 };
 pub use negotiation::{LONGEST_RESPONSE, LoginEnd, Negotiation};
 pub use parameters::{Parameters, in_force};
-pub use status::{Kind, LoginFlags, LoginStatus};
+pub use status::{LoginFlags, LoginStatus, SessionType};
 pub use targets::{TextEnd, send_targets, target_text};
 pub use value::{Limits, Rule, Value, Word};
 pub use within::{TextAnswer, answer_within};

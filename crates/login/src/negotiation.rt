@@ -13,7 +13,7 @@ use crate::checks::{
 };
 use crate::key::DATA_SEGMENT_LENGTH;
 use crate::parameters::Parameters;
-use crate::status::{Kind, LoginFlags, LoginStatus, Stop};
+use crate::status::{LoginFlags, LoginStatus, SessionType, Stop};
 use crate::text::{found, is_text};
 use scsi_types::NoMemory;
 use std::alloc::Global;
@@ -45,7 +45,7 @@ pub struct Negotiation {
     target: Vec<u8>,
     tag: u16,
     stage: Option<u8>,
-    kind: Option<Kind>,
+    kind: Option<SessionType>,
     declared: bool,
     said: Vec<u8>,
     unfinished: Vec<u8>,
@@ -125,12 +125,12 @@ impl Negotiation {
     }
 
     /// The session type, Normal before the first request was answered.
-    pub fn session_kind(&self) -> Kind
+    pub fn session_kind(&self) -> SessionType
         ensures { result ≡ kind_in self.now.kind }
     {
         match self.kind {
             Some(kind) => kind,
-            None => Kind::Normal,
+            None => SessionType::Normal,
         }
     }
 
@@ -220,7 +220,7 @@ impl Negotiation {
         if kind.is_none() {
             return refused(LoginStatus::SessionTypeNotSupported);
         }
-        if kind == Some(Kind::Normal) && found(whole, b"TargetName").is_none() {
+        if kind == Some(SessionType::Normal) && found(whole, b"TargetName").is_none() {
             return refused(LoginStatus::MissingParameter);
         }
         if names_other(&self.target, whole) {
@@ -305,7 +305,7 @@ impl Negotiation {
             ≡ out.old.items ++ group_text self.now.tag self.now.kind (kind_after self.now.kind (pairs whole.now)) }
         ensures kept { vec_capacity out.old ≤ vec_capacity out.new }
     {
-        if self.kind.is_none() && kind_of(whole) == Some(Kind::Normal) {
+        if self.kind.is_none() && kind_of(whole) == Some(SessionType::Normal) {
             put_number(out, b"TargetPortalGroupTag", self.tag as u32);
         }
     }
@@ -338,7 +338,7 @@ fn next_stage(flags: LoginFlags) -> u8
     }
 }
 
-fn kind_after(kind: Option<Kind>, text: &[u8]) -> Option<Kind>
+fn kind_after(kind: Option<SessionType>, text: &[u8]) -> Option<SessionType>
     ensures { result ≡ kind_after kind (pairs text.now) }
 {
     match kind {

@@ -3,7 +3,7 @@ ghost use Rattle.std.specs.Prelude.{◌≡◌};
 
 /// What a session is for (RFC 7143, 4.3 and 13.21).
 #[derive(Clone, Copy, Debug, PartialEq, Eq)]
-pub enum Kind {
+pub enum SessionType {
     Normal,
     Discovery,
 }

@@ -6,7 +6,7 @@ ghost use Rattle.login.specs.Targets.{portal_text, address_text, addresses, answ
 
 use crate::checks::{MOST_PAIRS, count_of_pairs};
 use crate::key::Key;
-use crate::status::Kind;
+use crate::status::SessionType;
 use crate::text::{first_pair, is_text};
 use std::alloc::{AllocError, Global};
 use std::net::SocketAddrV4;
@@ -27,7 +27,7 @@ pub enum TextEnd {
 pub fn send_targets(
     alloc: Global,
     target: &[u8],
-    kind: Kind,
+    kind: SessionType,
     first: &[SocketAddrV4],
     second: &[SocketAddrV4],
     text: &[u8],
@@ -100,7 +100,7 @@ fn portal_text(alloc: Global, tag: u16, portal: &SocketAddrV4) -> Result<String,
 fn answered(
     alloc: Global,
     target: &[u8],
-    kind: Kind,
+    kind: SessionType,
     told: &[u8],
     text: &[u8],
 ) -> Result<Vec<u8>, AllocError>
@@ -119,7 +119,7 @@ fn answered(
 fn put_text_answer(
     out: &mut Vec<u8>,
     target: &[u8],
-    kind: Kind,
+    kind: SessionType,
     told: &[u8],
     key: &[u8],
     value: &[u8],
@@ -138,7 +138,7 @@ fn put_text_answer(
 fn put_targets(
     out: &mut Vec<u8>,
     target: &[u8],
-    kind: Kind,
+    kind: SessionType,
     told: &[u8],
     value: &[u8],
 ) -> Result<(), AllocError>
@@ -148,7 +148,7 @@ fn put_targets(
         out.extend_from_slice(told)
     } else if value != b"All".as_slice() {
         Ok(())
-    } else if kind == Kind::Discovery {
+    } else if kind == SessionType::Discovery {
         out.extend_from_slice(told)
     } else {
         push_pair(out, b"SendTargets", b"Reject")

@@ -6,7 +6,7 @@ ghost use Rattle.login.specs.Targets.{answer_of, answers_of, targets_text};
 
 use crate::checks::{MOST_PAIRS, count_of_pairs};
 use crate::key::Key;
-use crate::status::Kind;
+use crate::status::SessionType;
 use crate::text::{first_pair, is_text};
 
 /// What the text of a Text request comes to, where an answer has so much room.
@@ -26,7 +26,7 @@ pub fn answer_within(
     out: &mut Vec<u8>,
     most: usize,
     target: &[u8],
-    kind: Kind,
+    kind: SessionType,
     told: &[u8],
     text: &[u8],
 ) -> TextAnswer
@@ -51,7 +51,7 @@ fn answered_within(
     out: &mut Vec<u8>,
     most: usize,
     target: &[u8],
-    kind: Kind,
+    kind: SessionType,
     told: &[u8],
     text: &[u8],
 ) -> bool
@@ -77,7 +77,7 @@ fn answer_one(
     out: &mut Vec<u8>,
     most: usize,
     target: &[u8],
-    kind: Kind,
+    kind: SessionType,
     told: &[u8],
     key: &[u8],
     value: &[u8],
@@ -102,7 +102,7 @@ fn targets_within(
     out: &mut Vec<u8>,
     most: usize,
     target: &[u8],
-    kind: Kind,
+    kind: SessionType,
     told: &[u8],
     value: &[u8],
 ) -> bool
@@ -116,7 +116,7 @@ fn targets_within(
         bytes_within(out, most, told)
     } else if value != b"All".as_slice() {
         bytes_within(out, most, &[])
-    } else if kind == Kind::Discovery {
+    } else if kind == SessionType::Discovery {
         bytes_within(out, most, told)
     } else {
         pair_within(out, most, b"SendTargets", b"Reject")

@@ -19,7 +19,7 @@ use Rattle.session_rules.specs.declared.target.TargetAnswer.TheVariants.{Replied
 use Rattle.session_rules.specs.declared.end.End.{End}
 use Rattle.std.specs.Prelude.{map, ◌++◌}
 use Rattle.std.specs.Io.KnownBytes.{IsAtEnd}
-use Rattle.login.specs.declared.status.Kind.TheVariants.{Normal}
+use Rattle.login.specs.declared.status.SessionType.TheVariants.{Normal}
 use Rattle.session_rules.specs.declared.identity.Identity.{Identity}
 use Rattle.session_rules.specs.declared.opening.Opening.TheVariants.{FullFeature}
 use Rattle.session_rules.specs.declared.start.Start.{Start}

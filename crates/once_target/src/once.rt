@@ -7,7 +7,7 @@ ghost use Rattle.once_target.specs.Once.{IsOnce, from_one};
 
 use crate::target::OneUnit;
 use block_file::{Blocks, MemBlocks};
-use login::Kind;
+use login::SessionType;
 use scsi_types::NoMemory;
 use session::{End, Identity, Lengths, Opening, Sink, Source, Start, serve_stream};
 use std::alloc::Global;
@@ -24,7 +24,7 @@ pub fn once<S: Source, K: Sink, B: Blocks>(
     me: &Identity<'_>,
 ) -> Result<(End, B, MemBlocks), NoMemory>
     requires { 0 < B.size blocks }
-    ensures served { IfOk result (λ r. IsOnce (setting_of 1 me.now Kind.Normal from_one)
+    ensures served { IfOk result (λ r. IsOnce (setting_of 1 me.now SessionType.Normal from_one)
         B.Blocks ⟦<MemBlocks as Blocks>⟧ (record {
           left = S.left source.old;
           left_after = S.left source.new;
@@ -43,7 +43,7 @@ pub fn once<S: Source, K: Sink, B: Blocks>(
         stat_sn: 1,
         lengths: Lengths::defaults(),
     };
-    let opening = Opening::FullFeature(Kind::Normal, start);
+    let opening = Opening::FullFeature(SessionType::Normal, start);
     let end = serve_stream(alloc, source, sink, &mut target, opening, me)?;
     let (device, registrations) = target.close();
     Ok((end, device, registrations))

@@ -5,7 +5,7 @@ ghost use Rattle.once_target.specs.Once.{IsBegun};
 
 use crate::attachment::{Attachment, answer, open, reset};
 use block_file::{Blocks, KeepOpener, MemBlocks};
-use login::Kind;
+use login::SessionType;
 use scsi_types::{Asked, Command, Group, NoMemory, PortName};
 use session::{BeginAnswer, ResetAnswer, Target, TargetAnswer};
 use std::alloc::Global;
@@ -91,7 +91,7 @@ impl<B: Blocks> Target for OneUnit<B> {
     }
 
     // The session was attached before: no other one begins.
-    fn begin(&mut self, _name: &[u8], _isid: u64, _kind: Kind) -> BeginAnswer {
+    fn begin(&mut self, _name: &[u8], _isid: u64, _kind: SessionType) -> BeginAnswer {
         BeginAnswer::Refused
     }
 

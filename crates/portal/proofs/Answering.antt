@@ -5,8 +5,8 @@ use Rattle.std.proofs.lemmas.Bool.Decides.{eqb_tells}
 use Rattle.std.proofs.lemmas.Bool.{cases_lt}
 use Rattle.std.proofs.lemmas.Grind.{flat_map-append}
 use Rattle.std.specs.Prelude.{◌⊎◌, slice_get, slice_set, MatchOption}
-use Rattle.login.specs.declared.status.Kind.{Kind}
-use Rattle.login.specs.declared.status.Kind.TheVariants.{Normal, Discovery}
+use Rattle.login.specs.declared.status.SessionType.{SessionType}
+use Rattle.login.specs.declared.status.SessionType.TheVariants.{Normal, Discovery}
 use Rattle.registrants.specs.Nexus.{through}
 use Rattle.scsi_types.specs.Nexus.{Port, Nexus}
 use Rattle.scsi_types.specs.declared.names.Group.{Group}
@@ -345,7 +345,7 @@ module _ (claims : Claims) (table : Sayings) (late : Late) (opening : ℕ → Un
           (grows_reset_at claims late opening a done.0 answer done.1) (λ (unit : ℕ). refl) standing)
 
   -- a session begins
-  begun_as : (asks : List Asking) (t new : TargetValue) (port : Port) (kind : Kind) (tsih : ℕ) → Standing asks t
+  begun_as : (asks : List Asking) (t new : TargetValue) (port : Port) (kind : SessionType) (tsih : ℕ) → Standing asks t
       → HasBegun claims table opening t port kind tsih new → HasDoneNothing asks
       → Fresh (asks ++ began port kind (Begun tsih) ∷ []) new ⊎ (Idle (asks ++ began port kind (Begun tsih) ∷ []) new
       ⊎ Running (asks ++ began port kind (Begun tsih) ∷ []) new)
@@ -375,7 +375,7 @@ module _ (claims : Claims) (table : Sayings) (late : Late) (opening : ℕ → Un
         answered = inl (nothing_more asks (began port Discovery (Begun tsih)) (λ (unit : ℕ). refl) nothing);
       }))
 
-  begins : (asks : List Asking) (t new : TargetValue) (port : Port) (kind : Kind) (tsih : ℕ) → Standing asks t
+  begins : (asks : List Asking) (t new : TargetValue) (port : Port) (kind : SessionType) (tsih : ℕ) → Standing asks t
       → HasBegun claims table opening t port kind tsih new
       → Standing (asks ++ began port kind (Begun tsih) ∷ []) new
   begins asks t new port kind tsih standing is =
@@ -391,7 +391,7 @@ module _ (claims : Claims) (table : Sayings) (late : Late) (opening : ℕ → Un
       not_again before = let e : true ≡ false = sym before ∙ is.fresh.0 in absurd (cc)
 
   -- it does not begin
-  turned_back : (asks : List Asking) (t new : TargetValue) (port : Port) (kind : Kind) (fault : BeginFault)
+  turned_back : (asks : List Asking) (t new : TargetValue) (port : Port) (kind : SessionType) (fault : BeginFault)
       → IsRefused claims table opening t port kind fault new → Standing asks t
       → Standing (asks ++ began port kind Refused ∷ []) new
   turned_back asks t new port kind fault is standing =

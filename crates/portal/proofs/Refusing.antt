@@ -3,8 +3,8 @@ use Rattle.std.proofs.Common.{◌≡◌, ℕ, Bool, false, true, List, [], ◌�
 use Rattle.std.proofs.Common.{arith, refl, sym, ap, ◌∙◌, subst, append-nil}
 use Rattle.std.proofs.lemmas.List.{map-append}
 use Rattle.std.specs.Prelude.{IfSome, MatchOption}
-use Rattle.login.specs.declared.status.Kind.{Kind}
-use Rattle.login.specs.declared.status.Kind.TheVariants.{Normal, Discovery}
+use Rattle.login.specs.declared.status.SessionType.{SessionType}
+use Rattle.login.specs.declared.status.SessionType.TheVariants.{Normal, Discovery}
 use Rattle.registrants.specs.Nexus.{through}
 use Rattle.scsi_types.specs.Nexus.{IsPortName, Port, Nexus}
 use Rattle.unit_control.specs.State.{UnitState}
@@ -20,7 +20,7 @@ use Rattle.portal.specs.declared.target.BeginFault.TheVariants as faults
 
 module _ (claims : Claims) (opening : ℕ → UnitState) where
   -- for want of memory, before it was attached to a unit
-  pub at_once : (nexus : Nexus) (kind : Kind) (units : ℕ) (seen : List Sight)
+  pub at_once : (nexus : Nexus) (kind : SessionType) (units : ℕ) (seen : List Sight)
       → IsTurnedBack claims opening nexus kind units faults.NoMemory seen seen
   at_once nexus kind units seen =
       record {
@@ -34,8 +34,8 @@ module _ (claims : Claims) (opening : ℕ → UnitState) where
       }
 
   -- for what its port's name lacks, or for want of memory, before it was attached to a unit
-  pub unnamed : (nexus : Nexus) (kind : Kind) (units : ℕ) (seen : List Sight) (fault : BeginFault) → IsUnnamed nexus.port fault
-      → IsTurnedBack claims opening nexus kind units fault seen seen
+  pub unnamed : (nexus : Nexus) (kind : SessionType) (units : ℕ) (seen : List Sight) (fault : BeginFault)
+      → IsUnnamed nexus.port fault → IsTurnedBack claims opening nexus kind units fault seen seen
   unnamed nexus kind units seen faults.Begun is = absurd is
   unnamed nexus kind units seen faults.NoPortName is =
       record {
@@ -159,7 +159,7 @@ grounds_of table asked enters.NoMemory said = tt
 
 -- one that was asked before is as it was
 pub asked_twice : (claims : Claims) (table : Sayings) (opening : ℕ → UnitState) {C : Type 0} (now old : TargetValue) (port : Port)
-    (kind : Kind) (slot : Option C) → now ≡ old → now.asked ≡ true → slot ≡ None
+    (kind : SessionType) (slot : Option C) → now ≡ old → now.asked ≡ true → slot ≡ None
     → IsRefused claims table opening old port kind faults.Begun (record now { asked = is_taken slot })
 asked_twice claims table opening now old port kind slot is asked none =
     subst (λ o. IsRefused claims table opening old port kind faults.Begun (record now { asked = is_taken o })) (sym none)
@@ -186,8 +186,8 @@ unasked now asked = ap (λ (b : Bool). record now { asked = b }) asked
 module _ (claims : Claims) (table : Sayings) (opening : ℕ → UnitState) (old now : TargetValue)
     (is : now ≡ record old { asked = true }) where
   -- it may not begin
-  pub turned_back : (port : Port) (kind : Kind) (fault : BeginFault) (at : List At) (before seen : List Sight) → old.begun ≡ false
-      → at ≡ old.at → before ≡ old.seen → IsGrounded table old.asked fault
+  pub turned_back : (port : Port) (kind : SessionType) (fault : BeginFault) (at : List At) (before seen : List Sight)
+      → old.begun ≡ false → at ≡ old.at → before ≡ old.seen → IsGrounded table old.asked fault
       → IsTurnedBack claims opening (through port now.group) kind now.units fault before seen
       → IsRefused claims table opening old port kind fault (record now { at = at; seen = seen })
   turned_back port kind fault at before seen fresh stays same grounds back =
@@ -201,7 +201,7 @@ module _ (claims : Claims) (table : Sayings) (opening : ℕ → UnitState) (old 
       }
 
   -- or it begins
-  pub has_begun : (port : Port) (kind : Kind) (number tsih : ℕ) (at : List At) (seen : List Sight) → IsPortName port
+  pub has_begun : (port : Port) (kind : SessionType) (number tsih : ℕ) (at : List At) (seen : List Sight) → IsPortName port
       → old.asked ≡ false → (old.begun ≡ false) × (old.at ≡ []) × (old.seen ≡ []) → seen ≡ old.seen
       → IsJoined claims opening kind (through port now.group) now.units at
       → table.entered (through port now.group) kind number tsih

@@ -2,7 +2,7 @@
 use Rattle.std.specs.Prelude.{◌≡◌, ◌⊎◌, ℕ, ◌<◌, ◌≤◌, false, true, IsTrue, nat_eq, if◌then◌else◌, List, [], ◌∷◌, ◌++◌, length, MatchBool}
 use Rattle.std.specs.Prelude.{Some, None, Result, slice_get, take}
 use Rattle.std.specs.List.{flat_map}
-use Rattle.login.specs.declared.status.Kind.TheVariants.{Normal}
+use Rattle.login.specs.declared.status.SessionType.TheVariants.{Normal}
 use Rattle.registrants.specs.Nexus.{through}
 use Rattle.scsi_types.specs.ReplyValue.{ReplyValue}
 use Rattle.scsi_types.specs.Nexus.{Port, Nexus}

@@ -1,10 +1,10 @@
 -- What tells the sessions that live apart (RFC 7143, 6.3 and 11.12.9).
 use Rattle.std.specs.Prelude.{◌≡◌, ◌⊎◌, ℕ, ◌<◌, ◌≤◌, Bool, true, false, nat_eq, List}
 use Rattle.std.specs.List.{list_any}
-use Rattle.login.specs.declared.status.Kind.{Kind}
-use Rattle.login.specs.declared.status.Kind.TheVariants.{Normal, Discovery}
+use Rattle.login.specs.declared.status.SessionType.{SessionType}
+use Rattle.login.specs.declared.status.SessionType.TheVariants.{Normal, Discovery}
 
-abbrev pub same_kind : Kind → Kind → Bool
+abbrev pub same_kind : SessionType → SessionType → Bool
 same_kind Normal Normal = true
 same_kind Normal Discovery = false
 same_kind Discovery Normal = false

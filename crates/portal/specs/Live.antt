@@ -1,7 +1,7 @@
 -- The sessions that live at an array, and their handles (RFC 7143, 6.3).
 use Rattle.std.specs.Prelude.{◌≡◌, ℕ, ◌+◌, ◌≤◌, Bool, not, ◌&&◌, nat_eq, List, [], ◌∷◌, ◌++◌, filter}
 use Rattle.std.specs.List.{list_any}
-use Rattle.login.specs.declared.status.Kind.{Kind}
+use Rattle.login.specs.declared.status.SessionType.{SessionType}
 use Rattle.registrants.specs.Nexus.{same_group, same_port}
 use Rattle.scsi_types.specs.Nexus.{Port, Nexus}
 use Rattle.portal.specs.declared.live.LiveSession.{LiveSession}
@@ -18,11 +18,11 @@ pub record TableValue (C : Type 0) : Type 0 where
   pub begun : ℕ
 
 -- A session of this port through this group, of this kind. There is one at most: a new one takes its place (RFC 7143, 6.3.5).
-abbrev pub is_older : {C : Type 0} → Nexus → Kind → LiveSession C → Bool
+abbrev pub is_older : {C : Type 0} → Nexus → SessionType → LiveSession C → Bool
 is_older nexus kind s = same_kind s.kind kind && same_group s.group nexus.group && same_port s.port nexus.port
 
 -- those that live on where one of this nexus and kind begins
-abbrev pub others : {C : Type 0} → Nexus → Kind → List (LiveSession C) → List (LiveSession C)
+abbrev pub others : {C : Type 0} → Nexus → SessionType → List (LiveSession C) → List (LiveSession C)
 others nexus kind live = filter (λ s. not (is_older nexus kind s)) live
 
 -- those that live on where the session with this number is over

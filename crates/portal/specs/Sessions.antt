@@ -1,6 +1,6 @@
 -- What the table of the sessions that live says of them (RFC 7143, 6.3).
 use Rattle.std.specs.Prelude.{◌≡◌, ℕ, Bool}
-use Rattle.login.specs.declared.status.Kind.{Kind}
+use Rattle.login.specs.declared.status.SessionType.{SessionType}
 use Rattle.scsi_types.specs.Nexus.{Port, Nexus}
 use Rattle.portal.specs.Live.{TableValue, HasEntered, is_live, without}
 use Rattle.portal.specs.declared.live.EnterFault.{EnterFault}
@@ -9,13 +9,13 @@ use Rattle.portal.specs.declared.live.EnterFault.{EnterFault}
 -- and this TSIH; that none could, for this cause; whether the session with this TSIH lived, and was of this port; and that the session
 -- with this number is over.
 pub record Sayings : Type 1 where
-  pub entered : Nexus → Kind → ℕ → ℕ → Type 0
+  pub entered : Nexus → SessionType → ℕ → ℕ → Type 0
   pub refused : EnterFault → Type 0
   pub lived : ℕ → Port → Bool → Type 0
   pub left : ℕ → Type 0
 
 -- the same of whatever table stands behind a lock, by what its calls say of it before them and behind them
-module _ {T : Type 0} (entered : T → Nexus → Kind → ℕ → ℕ → T → Type 0) (refused : T → EnterFault → Type 0)
+module _ {T : Type 0} (entered : T → Nexus → SessionType → ℕ → ℕ → T → Type 0) (refused : T → EnterFault → Type 0)
     (lived : T → ℕ → Port → Bool → Type 0) (left : T → ℕ → T → Type 0) where
   abbrev pub of_table : Sayings
   of_table =
@@ -28,7 +28,7 @@ module _ {T : Type 0} (entered : T → Nexus → Kind → ℕ → ℕ → T → 
 
 -- what the calls of the table say
 module _ {C : Type 0} where
-  abbrev pub entered_in : TableValue C → Nexus → Kind → ℕ → ℕ → TableValue C → Type 0
+  abbrev pub entered_in : TableValue C → Nexus → SessionType → ℕ → ℕ → TableValue C → Type 0
   entered_in old nexus kind number tsih new =
       (connection : C) × HasEntered old new (record {
         number = number;

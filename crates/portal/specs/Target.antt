@@ -2,8 +2,8 @@
 use Rattle.std.specs.Prelude.{◌≡◌, ℕ, ◌+◌, ◌<◌, ◌≤◌, Bool, true, false, List, [], ◌∷◌, ◌++◌, length, slice_get, slice_set}
 use Rattle.std.specs.Prelude.{Option, Some, None, MatchOption, Result, Ok, Err}
 use Rattle.identity.specs.Absent.{absent_reply}
-use Rattle.login.specs.declared.status.Kind.{Kind}
-use Rattle.login.specs.declared.status.Kind.TheVariants.{Normal, Discovery}
+use Rattle.login.specs.declared.status.SessionType.{SessionType}
+use Rattle.login.specs.declared.status.SessionType.TheVariants.{Normal, Discovery}
 use Rattle.registrants.specs.Nexus.{through}
 use Rattle.scsi_types.specs.Nexus.{IsPortName}
 use Rattle.scsi_types.specs.Nexus.{Port, Nexus}
@@ -100,7 +100,7 @@ module _ (claims : Claims) (opening : ℕ → UnitState) where
     pub ends : new ≡ old ++ seen
 
   -- A normal session is attached to all units; a discovery session serves no commands, and is attached to none (RFC 7143, 4.3).
-  abbrev pub IsJoined : Kind → Nexus → ℕ → List At → Type 0
+  abbrev pub IsJoined : SessionType → Nexus → ℕ → List At → Type 0
   IsJoined Normal nexus units at = (length at ≡ units) × AreAttached nexus 0 at
   IsJoined Discovery nexus units at = at ≡ []
 
@@ -110,7 +110,7 @@ module _ (claims : Claims) (opening : ℕ → UnitState) where
 
   -- Why it may not begin, and what was seen then of a unit: it was asked before; it has no name of a port; this unit had no room for one
   -- that is normal; there was no TSIH or no number for it, which is asked once it is attached to all; or there was no memory.
-  abbrev pub IsCauseOf : Nexus → Kind → ℕ → List At → BeginFault → List Sight → Type 0
+  abbrev pub IsCauseOf : Nexus → SessionType → ℕ → List At → BeginFault → List Sight → Type 0
   IsCauseOf nexus kind units at faults.Begun seen = (at ≡ []) × (seen ≡ [])
   IsCauseOf nexus kind units at faults.NoPortName seen = (at ≡ []) × (seen ≡ []) × (IsPortName nexus.port → ⊥)
   IsCauseOf nexus kind units at (faults.NoRoom unit) seen =
@@ -120,7 +120,8 @@ module _ (claims : Claims) (opening : ℕ → UnitState) where
   IsCauseOf nexus kind units at faults.NoMemory seen = seen ≡ []
 
   -- It may not begin: where it was attached to units, it is over at each of them. Of what was seen so much is new.
-  pub record IsTurnedBack (nexus : Nexus) (kind : Kind) (units : ℕ) (fault : BeginFault) (old new : List Sight) : Type 0 where
+  pub record IsTurnedBack (nexus : Nexus) (kind : SessionType) (units : ℕ) (fault : BeginFault) (old new : List Sight)
+      : Type 0 where
     pub at : List At
     pub attached : AreAttached nexus 0 at
     pub left : List Sight
@@ -172,7 +173,7 @@ IsGrounded table asked faults.NoMemory = Unit {0}
 -- beside a table of the sessions that live
 module _ (claims : Claims) (table : Sayings) (opening : ℕ → UnitState) where
   -- It has begun: it is attached to what its kind is attached to, and lives by this TSIH, as the table says.
-  pub record HasBegun (old : TargetValue) (port : Port) (kind : Kind) (tsih : ℕ) (new : TargetValue) : Type 0 where
+  pub record HasBegun (old : TargetValue) (port : Port) (kind : SessionType) (tsih : ℕ) (new : TargetValue) : Type 0 where
     pub name : IsPortName port
     pub first : old.asked ≡ false
     pub fresh : (old.begun ≡ false) × (old.at ≡ []) × (old.seen ≡ [])
@@ -182,14 +183,15 @@ module _ (claims : Claims) (table : Sayings) (opening : ℕ → UnitState) where
     pub rest : new ≡ record old { asked = true; begun = true; number = Some number; at = new.at }
 
   -- It does not begin, and is as it was but for what was seen of units, and that it was asked; one that had begun before sees no more.
-  pub record IsRefused (old : TargetValue) (port : Port) (kind : Kind) (fault : BeginFault) (new : TargetValue) : Type 0 where
+  pub record IsRefused (old : TargetValue) (port : Port) (kind : SessionType) (fault : BeginFault) (new : TargetValue)
+      : Type 0 where
     pub turned_back : IsTurnedBack claims opening (through port old.group) kind old.units fault old.seen new.seen
     pub grounds : IsGrounded table old.asked fault
     pub again : old.begun ≡ true → new ≡ old
     pub rest : new ≡ record old { asked = true; seen = new.seen }
 
   -- It was asked to begin: its TSIH, or why it may not.
-  abbrev pub HasTried : TargetValue → Port → Kind → Result ℕ BeginFault → TargetValue → Type 0
+  abbrev pub HasTried : TargetValue → Port → SessionType → Result ℕ BeginFault → TargetValue → Type 0
   HasTried old port kind (Ok tsih) new = (0 < tsih) × HasBegun old port kind tsih new
   HasTried old port kind (Err fault) new = IsRefused old port kind fault new
 

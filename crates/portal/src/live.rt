@@ -6,7 +6,7 @@ ghost use Rattle.portal.specs.Live.{HasEntered, IsCauseOf, is_live, others, with
 
 use crate::connection::Connection;
 use crate::handles::{Handled, LAST_NUMBER, next_tsih};
-use login::Kind;
+use login::SessionType;
 use scsi_types::{Group, PortName};
 use std::alloc::{AllocError, Global};
 use std::marker::Model;
@@ -24,7 +24,7 @@ pub struct LiveSession<C> {
     /// The group of the portals by which it came.
     pub group: Group,
     /// What it is for.
-    pub kind: Kind,
+    pub kind: SessionType,
     /// What it runs over.
     pub connection: C,
 }
@@ -140,7 +140,7 @@ impl<C> Table<C> {
         &mut self,
         port: PortName,
         group: Group,
-        kind: Kind,
+        kind: SessionType,
         connection: C,
     ) -> Result<(u64, u16), EnterFault>
     where

@@ -9,7 +9,7 @@ use crate::target::{BeginFault, SessionTarget};
 use crate::told::{States, is_trouble, operation_of, reservation_in, sense_of, states_in};
 use crate::units::{LogicalUnits, Pass};
 use event_log::{By, Cause, Event, Initiator, Log, Operation, Reservation};
-use login::Kind;
+use login::SessionType;
 use scsi_types::{Asked, Status};
 use session::{BeginAnswer, ResetAnswer, Target, TargetAnswer};
 use std::alloc::Global;
@@ -104,7 +104,7 @@ struct Teller<'a, 'b, R: Wait + Clock> {
 
 impl<R: Wait + Clock> Teller<'_, '_, R> {
     // Tells that the session has begun, where it has.
-    fn tried(&self, tried: Result<u16, BeginFault>, kind: Kind) {
+    fn tried(&self, tried: Result<u16, BeginFault>, kind: SessionType) {
         if let Ok(tsih) = tried {
             let begun = Event::LoggedIn(self.who, self.observer.path, tsih, kind_of(kind));
             self.observer.tell(&begun);
@@ -254,10 +254,10 @@ fn cause_of(fault: BeginFault) -> Cause {
 }
 
 // What a session is for, as the log names it.
-fn kind_of(kind: Kind) -> event_log::Kind {
+fn kind_of(kind: SessionType) -> event_log::Kind {
     match kind {
-        Kind::Normal => event_log::Kind::Normal,
-        Kind::Discovery => event_log::Kind::Discovery,
+        SessionType::Normal => event_log::Kind::Normal,
+        SessionType::Discovery => event_log::Kind::Discovery,
     }
 }
 
@@ -282,7 +282,7 @@ impl<
         self.target.units()
     }
 
-    fn begin(&mut self, name: &[u8], isid: u64, kind: Kind) -> BeginAnswer {
+    fn begin(&mut self, name: &[u8], isid: u64, kind: SessionType) -> BeginAnswer {
         self.visitor.meet(self.alloc, self.observer.log, name, isid);
         let tried = self.target.try_begin(name, isid, kind);
         self.visitor.tried(tried);

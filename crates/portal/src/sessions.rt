@@ -6,7 +6,7 @@ ghost use Rattle.portal.specs.Sessions.{Sayings};
 
 use crate::connection::Connection;
 use crate::live::{EnterFault, Table};
-use login::Kind;
+use login::SessionType;
 use scsi_types::{Group, PortName};
 use std::sync::{Mutex, Wait};
 
@@ -22,7 +22,7 @@ pub trait Sessions<C: Connection> {
         rt: &R,
         port: PortName,
         group: Group,
-        kind: Kind,
+        kind: SessionType,
         connection: C,
     ) -> Result<(u64, u16), EnterFault>
         requires unlimited { C.is_unlimited connection }
@@ -45,11 +45,11 @@ pub trait Sessions<C: Connection> {
 /// A table of sessions, as the thread has it that holds its lock. What its calls say is of the table before it and of the one behind it:
 /// nothing else says it.
 pub trait Living<C> {
-    ghost use Rattle.login.specs.declared.status.Kind.{Kind};
+    ghost use Rattle.login.specs.declared.status.SessionType.{SessionType};
     ghost use Rattle.portal.specs.declared.live.EnterFault.{EnterFault};
 
     /// A session of this nexus and kind began to live, with this number and this TSIH.
-    ghost entered: { Self → Nexus → Kind → ℕ → ℕ → Self → Type 0 };
+    ghost entered: { Self → Nexus → SessionType → ℕ → ℕ → Self → Type 0 };
 
     /// None could, for this cause.
     ghost refused: { Self → EnterFault → Type 0 };
@@ -64,7 +64,7 @@ pub trait Living<C> {
         &mut self,
         port: PortName,
         group: Group,
-        kind: Kind,
+        kind: SessionType,
         connection: C,
     ) -> Result<(u64, u16), EnterFault>
         ensures entered { IfOk result (λ r. entered self.old (through port group) kind r.0 r.1 self.new) }
@@ -96,7 +96,7 @@ impl<C: Connection + Drop> Living<C> for Table<C> {
         &mut self,
         port: PortName,
         group: Group,
-        kind: Kind,
+        kind: SessionType,
         connection: C,
     ) -> Result<(u64, u16), EnterFault> {
         self.enter(port, group, kind, connection)
@@ -125,7 +125,7 @@ impl<C: Connection, T: Living<C>> Sessions<C> for Mutex<T> {
         rt: &R,
         port: PortName,
         group: Group,
-        kind: Kind,
+        kind: SessionType,
         connection: C,
     ) -> Result<(u64, u16), EnterFault> {
         self.lock(rt).enter(port, group, kind, connection)

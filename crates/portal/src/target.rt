@@ -16,7 +16,7 @@ use crate::sessions::Sessions;
 use crate::unit_session::UnitSession;
 use crate::units::{LogicalUnits, Pass};
 use identity::absent;
-use login::Kind;
+use login::SessionType;
 use scsi_types::{Asked, Group, NoMemory, PortName};
 use session::{BeginAnswer, ResetAnswer, Target, TargetAnswer};
 use std::alloc::{AllocError, Global};
@@ -221,10 +221,11 @@ fn attach_all<R: Wait, U: LogicalUnits<P, H>, P: Pass, H: Drop>(
 ) -> Result<(), BeginFault>
     requires none { attached.old.items ≡ [] }
     requires room { length seen.old.items + U.unit_count units.now ≤ vec_capacity seen.old }
-    ensures joined { IfOk result (λ _. IsJoined U.claims U.opening Kind.Normal (through port.now group) (U.unit_count units.now) attached.new.items) }
+    ensures joined { IfOk result (λ _. IsJoined U.claims U.opening SessionType.Normal (through port.now group)
+        (U.unit_count units.now) attached.new.items) }
     ensures placed { IfOk result (λ _. All (λ a. a.place < U.unit_count units.now) attached.new.items) }
     ensures unseen { IfOk result (λ _. seen.new ≡ seen.old) }
-    ensures turned_back { IfErr result (λ fault. IsTurnedBack U.claims U.opening (through port.now group) Kind.Normal
+    ensures turned_back { IfErr result (λ fault. IsTurnedBack U.claims U.opening (through port.now group) SessionType.Normal
         (U.unit_count units.now) fault (map U.seen seen.old.items) (map U.seen seen.new.items)) }
     ensures of_units { IfErr result IsOfUnits }
     ensures left { IfErr result (λ _. attached.new.items ≡ []) }
@@ -251,7 +252,7 @@ fn enter<R: Wait, S: Sessions<C>, C: Connection>(
     sessions: &S,
     port: PortName,
     group: Group,
-    kind: Kind,
+    kind: SessionType,
     connection: C,
 ) -> Result<(u64, u16), EnterFault>
     ensures entered { IfOk result (λ r. S.says.entered (through port group) kind r.0 r.1) }
@@ -285,12 +286,13 @@ fn attach_and_enter<
 ) -> Result<(u64, u16), BeginFault>
     requires none { at.old.items ≡ [] }
     requires room { length seen.old.items + U.unit_count units.now ≤ vec_capacity seen.old }
-    ensures joined { IfOk result (λ _. IsJoined U.claims U.opening Kind.Normal (through port group) (U.unit_count units.now) at.new.items) }
+    ensures joined { IfOk result (λ _. IsJoined U.claims U.opening SessionType.Normal (through port group)
+        (U.unit_count units.now) at.new.items) }
     ensures placed { IfOk result (λ _. All (λ a. a.place < U.unit_count units.now) at.new.items) }
-    ensures entered { IfOk result (λ r. S.says.entered (through port group) Kind.Normal r.0 r.1) }
+    ensures entered { IfOk result (λ r. S.says.entered (through port group) SessionType.Normal r.0 r.1) }
     ensures tsih { IfOk result (λ r. 0 < r.1) }
     ensures unseen { IfOk result (λ _. seen.new ≡ seen.old) }
-    ensures turned_back { IfErr result (λ fault. IsTurnedBack U.claims U.opening (through port group) Kind.Normal
+    ensures turned_back { IfErr result (λ fault. IsTurnedBack U.claims U.opening (through port group) SessionType.Normal
         (U.unit_count units.now) fault (map U.seen seen.old.items) (map U.seen seen.new.items)) }
     ensures grounds { IfErr result (IsGrounded S.says false) }
     ensures left { IfErr result (λ _. at.new.items ≡ []) }
@@ -299,7 +301,7 @@ fn attach_and_enter<
         Ok(()) => {}
         Err(fault) => return Err(fault),
     }
-    match enter(rt, sessions, port, group, Kind::Normal, connection) {
+    match enter(rt, sessions, port, group, SessionType::Normal, connection) {
         Ok(entered) => Ok(entered),
         Err(fault) => {
             retire_all(rt, units, at, seen);
@@ -356,7 +358,8 @@ impl<
         requires fresh { (self.old.begun ≡ false) × (self.old.at ≡ []) × (self.old.seen ≡ []) }
         requires asked { self.old.asked ≡ true }
         requires name { IsPortName port }
-        ensures { HasTried U.claims S.says U.opening (record self.old { asked = false }) port Kind.Normal result self.new }
+        ensures { HasTried U.claims S.says U.opening (record self.old { asked = false }) port SessionType.Normal result
+            self.new }
     {
         let device = self.device;
         let Ok(()) = self.seen.reserve_exact(usize::from(device.units.count())) else {
@@ -389,14 +392,15 @@ impl<
         requires fresh { (self.old.begun ≡ false) × (self.old.at ≡ []) × (self.old.seen ≡ []) }
         requires asked { self.old.asked ≡ true }
         requires name { IsPortName port }
-        ensures { HasTried U.claims S.says U.opening (record self.old { asked = false }) port Kind.Discovery result self.new }
+        ensures { HasTried U.claims S.says U.opening (record self.old { asked = false }) port SessionType.Discovery result
+            self.new }
     {
         match enter(
             self.rt,
             &self.device.sessions,
             port,
             self.group,
-            Kind::Discovery,
+            SessionType::Discovery,
             connection,
         ) {
             Ok((number, tsih)) => {
@@ -410,7 +414,12 @@ impl<
 
     /// Begins the session, of this kind and of the initiator port with this name and ISID: its TSIH. A normal session is
     /// attached to all units in order. The one of the same port, group and kind is over from then on (RFC 7143, 6.3.5).
-    pub fn try_begin(&mut self, name: &[u8], isid: u64, kind: Kind) -> Result<u16, BeginFault>
+    pub fn try_begin(
+        &mut self,
+        name: &[u8],
+        isid: u64,
+        kind: SessionType,
+    ) -> Result<u16, BeginFault>
         ensures { HasTried U.claims S.says U.opening self.old (record { name = name.now; isid = isid }) kind result self.new }
     {
         let Some(connection) = self.connection.take() else {
@@ -421,8 +430,8 @@ impl<
             Err(fault) => return Err(fault),
         };
         match kind {
-            Kind::Normal => self.join(port, connection),
-            Kind::Discovery => self.join_none(port, connection),
+            SessionType::Normal => self.join(port, connection),
+            SessionType::Discovery => self.join_none(port, connection),
         }
     }
 
@@ -493,7 +502,7 @@ impl<
         u16::from(self.device.units.count())
     }
 
-    fn begin(&mut self, name: &[u8], isid: u64, kind: Kind) -> BeginAnswer {
+    fn begin(&mut self, name: &[u8], isid: u64, kind: SessionType) -> BeginAnswer {
         match self.try_begin(name, isid, kind) {
             Ok(tsih) => BeginAnswer::Begun(tsih),
             Err(_) => BeginAnswer::Refused,

@@ -2,7 +2,7 @@
 use Rattle.std.proofs.Common.{Bool, true, false, ◌≡◌, ℕ, ◌+◌, List, [], ◌∷◌, ◌++◌, Option, Some, None, length, map, refl, ap, ◌∙◌, arith}
 use Rattle.std.proofs.Common.{inl, inr, append_assoc, length-append, sym, ◌<◌}
 use Rattle.std.proofs.lemmas.List.{append-nil, map-append}
-use Rattle.session_rules.specs.Words.{AllByRecursion, option_or, Progress, beginning, kind_in, Kind}
+use Rattle.session_rules.specs.Words.{AllByRecursion, option_or, Progress, beginning, kind_in, SessionType}
 use Rattle.session_rules.specs.{Asking.Asking, Setting.Setting, Setting.setting_of, Turn.Incoming, Turn.Turn, Window.wrap}
 use Rattle.session_rules.specs.declared.{end.End.End, identity.Identity.Identity, login_outcome.LoginOutcome.LoginOutcome}
 use Rattle.session_rules.specs.declared.{start.Start.Start}
@@ -59,7 +59,7 @@ module _ {T : Type 0} {leads : T → Asking → T → Type 0} {x y : T} {held he
     }
 
     -- the session begins; while it logged in, nothing waited
-    pub begins_now : {login : Option LoginStanding} {p : PhasesValue} {start : Start} {kind : Kind} {s' : Counters}
+    pub begins_now : {login : Option LoginStanding} {p : PhasesValue} {start : Start} {kind : SessionType} {s' : Counters}
         → phases_of login s ≡ p → login ≡ Some v → IsFresh p → begins outcome ≡ true → IsStart v' start
         → start.exp_cmd_sn < 4294967296 → start.stat_sn < 4294967296 → kind ≡ kind_in v'.progress.kind
         → (s.standing.collecting ≡ [] → s' ≡ begun (record (s.setting) { kind = kind; start = start })) → p' ≡ phases_of None s'
@@ -100,7 +100,7 @@ pub record LogsIn (units : ℕ) (me : Identity) (tag : ℕ) (c : Transcript) (v 
   pub none_ends : NoneEnds (map of_login c.logins)
   pub no_turns : c.turns ≡ []
   pub standing_is : v ≡ login_standing me.target_name.now tag c.logins
-  pub kind : Kind
+  pub kind : SessionType
   pub start : Start
   pub waits : s ≡ begun (setting_of units me kind start)
 
@@ -175,7 +175,7 @@ module _ (units : ℕ) (me : Identity) (tag : ℕ) (c : Transcript) (v : LoginSt
     waits = k.waits;
   })
   by_next p' true is next on =
-      let kind : Kind = kind_in (login_after v came).progress.kind in
+      let kind : SessionType = kind_in (login_after v came).progress.kind in
       rw next.4 (record {
         setting = setting_of units me kind next.0;
         behind = λ ts lawful. (

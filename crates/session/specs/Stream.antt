@@ -1,6 +1,7 @@
 -- What one turn makes of session, target and sink.
 use Rattle.std.specs.Prelude.{◌≡◌, ◌<◌}
-use Rattle.session_rules.specs.Words.{ℕ, Bool, [], false, true, List, Option, Some, None, IfSome, MatchOption, kind_in, Kind}
+use Rattle.session_rules.specs.Words.{ℕ, Bool, [], false, true, List, Option, Some, None, IfSome, MatchOption, kind_in}
+use Rattle.session_rules.specs.Words.{SessionType}
 use Rattle.session_rules.specs.{Asking.Asking, Setting.setting_of, Phases.Exchange, Phases.of_login, Phases.of_turn}
 use Rattle.session_rules.specs.declared.{end.End.End, identity.Identity.Identity, start.Start.Start}
 use Rattle.session_rules.specs.declared.opening.Opening.{Opening, TheVariants.Login, TheVariants.FullFeature}
@@ -20,7 +21,7 @@ pub record PhasesValue : Type 0 where
 abbrev pub OpensWith : ℕ → Identity → Opening → PhasesValue → Type 0
 OpensWith units me (Login tag) p =
     (p.login ≡ Some (login_standing me.target_name.now tag []))
-    × (kind : Kind) × (start : Start) × (p.counters ≡ begun (setting_of units me kind start))
+    × (kind : SessionType) × (start : Start) × (p.counters ≡ begun (setting_of units me kind start))
 OpensWith units me (FullFeature kind start) p =
     (p.login ≡ None) × (p.counters ≡ begun (setting_of units me kind start))
     × (start.exp_cmd_sn < 4294967296) × (start.stat_sn < 4294967296)

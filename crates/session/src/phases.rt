@@ -6,7 +6,7 @@ ghost use Rattle.session.specs.Stream.{OpensWith, IsFresh, MakesExchange};
 ghost use Rattle.session_stream.specs.declared.outbox.TheConstants.{ENOUGH_TO_WRITE};
 
 use iscsi_pdu::{BHS_LENGTH, Pdu, PduFault};
-use login::Kind;
+use login::SessionType;
 use scsi_types::NoMemory;
 use session_full_feature::{Session, fault_turn, feature_turn};
 use session_login::{LoginPhase, login_fault_turn, login_turn};
@@ -52,7 +52,7 @@ impl Phases {
                 let login = LoginPhase::new(alloc, me.target_name, tag)?;
                 Ok(Phases {
                     login: Some(login),
-                    session: Session::new(alloc, Kind::Normal, start, units, me)?,
+                    session: Session::new(alloc, SessionType::Normal, start, units, me)?,
                 })
             }
             Opening::FullFeature(kind, start) => Ok(Phases {

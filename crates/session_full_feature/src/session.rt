@@ -28,7 +28,7 @@ use iscsi_pdu::{
     DataOut, Header, InitiatorHeader, Numbers, Pdu, PduFault, R2t, Reject, ScsiCommand,
     TaskManagementRequest,
 };
-use login::{Kind, TextAnswer, answer_within, target_text};
+use login::{SessionType, TextAnswer, answer_within, target_text};
 use scsi_types::{Asked, Lun, NoMemory, Status, decode, need};
 use session_rules::{
     COMMAND_NOT_SUPPORTED, End, Identity, LONGEST_TEXT, Lengths, Management, PROTOCOL_ERROR, Start,
@@ -53,7 +53,7 @@ pub struct Session {
     transfer_tag: u32,
     // How many units the target has.
     units: u16,
-    kind: Kind,
+    kind: SessionType,
     target_name: Vec<u8>,
     // What the target tells of itself.
     told: Vec<u8>,
@@ -83,7 +83,7 @@ impl Session {
     /// commands that wait for their data; later only the data itself takes memory.
     pub fn new(
         alloc: Global,
-        kind: Kind,
+        kind: SessionType,
         start: Start,
         units: u16,
         me: &Identity<'_>,
@@ -105,7 +105,7 @@ impl Session {
     }
 
     /// Begins anew, as a session of this kind: before anything came.
-    pub fn begin(&mut self, kind: Kind, start: Start)
+    pub fn begin(&mut self, kind: SessionType, start: Start)
         ensures { self.old.standing.collecting ≡ []
             → self.new ≡ begun (record (self.old.setting) { kind = kind; start = start }) }
     {

@@ -4,7 +4,7 @@ ghost use Rattle.session_rules.specs.Setting.{discovers};
 ghost use Rattle.session_rules.specs.Text.{is_part};
 
 use iscsi_pdu::{Numbers, TargetHeader, TextRequest, TextResponse};
-use login::Kind;
+use login::SessionType;
 use session_stream::{NO_TRANSFER_TAG, ResponsePdu};
 
 /// What was made of the text of a Text Request: its answer, if it has one that the initiator takes.
@@ -22,12 +22,12 @@ pub fn is_part(request: &TextRequest) -> bool
 }
 
 /// Whether a session is a discovery session, which serves no command.
-pub fn discovers(kind: Kind) -> bool
+pub fn discovers(kind: SessionType) -> bool
     ensures { result ≡ discovers kind }
 {
     match kind {
-        Kind::Normal => false,
-        Kind::Discovery => true,
+        SessionType::Normal => false,
+        SessionType::Discovery => true,
     }
 }
 

@@ -6,14 +6,14 @@ ghost use Rattle.session_rules.specs.Verdict.{window_verdict, verdict_of, is_ref
 
 use crate::text::discovers;
 use iscsi_pdu::ScsiCommand;
-use login::Kind;
+use login::SessionType;
 use session_rules::{Lengths, PROTOCOL_ERROR, RESERVED_TAG, Verdict, Window};
 use session_tasks::{WaitingCommands, expected_data_length};
 
 /// What becomes of a SCSI Command in a session of this kind, where these lengths are in force and this stands behind what
 /// came.
 pub fn command_verdict(
-    kind: Kind,
+    kind: SessionType,
     lengths: Lengths,
     window: Window,
     waiting: &WaitingCommands,

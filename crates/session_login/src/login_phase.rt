@@ -22,7 +22,7 @@ use byteorder::{BigEndian, ByteOrder};
 use iscsi_pdu::{
     Header, InitiatorHeader, LoginRequest, LoginResponse, Numbers, Pdu, Reject, TargetHeader,
 };
-use login::{Kind, LoginEnd, LoginFlags, LoginStatus, Negotiation};
+use login::{LoginEnd, LoginFlags, LoginStatus, Negotiation, SessionType};
 use scsi_types::NoMemory;
 use session_rules::{
     BeginAnswer, COMMAND_NOT_SUPPORTED, Lengths, LoginOutcome, Start, Target, target_numbers,
@@ -148,7 +148,7 @@ impl LoginPhase {
     }
 
     /// The kind of the session that the login begins.
-    pub fn kind(&self) -> Kind
+    pub fn kind(&self) -> SessionType
         ensures { result ≡ kind_in self.now.progress.kind }
     {
         self.negotiation.session_kind()

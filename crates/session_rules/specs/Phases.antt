@@ -1,7 +1,7 @@
 -- A whole session (RFC 7143, 4.2 and 6.3): its login phase, and full feature phase behind it.
 use Rattle.std.specs.Prelude.{◌≡◌, ◌⊎◌, ◌∷◌, ◌++◌}
-use Rattle.session_rules.specs.Words.{ℕ, true, false, List, [], map, Option, None, filter_map, flat_map, AllByRecursion, kind_in, Kind, End}
-use Rattle.session_rules.specs.Words.{Identity, Opening, Login, FullFeature, Start}
+use Rattle.session_rules.specs.Words.{ℕ, true, false, List, [], map, Option, None, filter_map, flat_map, AllByRecursion}
+use Rattle.session_rules.specs.Words.{kind_in, SessionType, End, Identity, Opening, Login, FullFeature, Start}
 use Rattle.session_rules.specs.{Asking.Asking, Setting.setting_of, Turn.Incoming, Turn.Out, Turn.Turn}
 use Rattle.session_rules.specs.Legal.{AtEachOf, end_after, Lawful}
 use Rattle.session_rules.specs.LoginPhase.{LoginTurn, login_standing, IsLoginTurn, login_end, begins, IsStart}
@@ -62,7 +62,8 @@ pub record Began (ls : List LoginTurn) : Type 0 where
   pub begun : begins last.outcome ≡ true
 
 -- full feature phase has this kind and this start, as the login left them
-pub record IsBehindLogin (target : List ℕ) (tag : ℕ) (ls : List LoginTurn) (kind : Kind) (start : Start) : Type 0 where
+pub record IsBehindLogin (target : List ℕ) (tag : ℕ) (ls : List LoginTurn) (kind : SessionType) (start : Start)
+    : Type 0 where
   pub began : Began ls
   pub kind_is : kind ≡ kind_in (login_standing target tag ls).progress.kind
   pub start_is : IsStart (login_standing target tag ls) start
@@ -73,7 +74,7 @@ pub record IsBehindLogin (target : List ℕ) (tag : ℕ) (ls : List LoginTurn) (
 abbrev pub IsLawfulBehind : ℕ → Identity → ℕ → Transcript → Type 0
 IsLawfulBehind units me tag c =
     (c.turns ≡ [])
-    ⊎ ((kind : Kind) × (start : Start) × IsBehindLogin me.target_name.now tag c.logins kind start
+    ⊎ ((kind : SessionType) × (start : Start) × IsBehindLogin me.target_name.now tag c.logins kind start
     × Lawful (setting_of units me kind start) c.turns)
 
 -- The transcript of a session that begins so, with a target of this identity that has so many units.

@@ -1,18 +1,18 @@
 -- What stays the same over a session.
-use Rattle.session_rules.specs.Words.{ℕ, Bool, true, false, List, Kind, Normal, Identity, Start}
-use Rattle.login.specs.{Targets.target_text, declared.status.Kind.TheVariants.Discovery}
+use Rattle.session_rules.specs.Words.{ℕ, Bool, true, false, List, SessionType, Normal, Identity, Start}
+use Rattle.login.specs.{Targets.target_text, declared.status.SessionType.TheVariants.Discovery}
 
 -- how many units the target has, from unit 0 on; the kind of the session; the target's name, and what it tells of itself;
 -- the numbers that the session begins with, and the lengths in force
 pub record Setting : Type 0 where
   pub units : ℕ
-  pub kind : Kind
+  pub kind : SessionType
   pub target_name : List ℕ
   pub told : List ℕ
   pub start : Start
 
 -- the setting of a session of this kind that begins so, with a target of this identity that has so many units
-abbrev pub setting_of : ℕ → Identity → Kind → Start → Setting
+abbrev pub setting_of : ℕ → Identity → SessionType → Start → Setting
 setting_of units me kind start = record {
   units = units;
   kind = kind;
@@ -22,6 +22,6 @@ setting_of units me kind start = record {
 }
 
 -- a discovery session serves no command (RFC 7143, 4.3)
-abbrev pub discovers : Kind → Bool
+abbrev pub discovers : SessionType → Bool
 discovers Normal = false
 discovers Discovery = true

@@ -21,7 +21,7 @@ pub use Rattle.iscsi_pdu.specs.declared.header.TargetHeader.TheVariants.{NopIn, 
 pub use Rattle.iscsi_pdu.specs.declared.header.TargetHeader.TheVariants.{TextResponse, DataIn, LogoutResponse, R2t, Reject}
 pub use Rattle.login.specs.{Progress.Progress, Progress.beginning, Table.own_data_segment, Text.pairs}
 pub use Rattle.login.specs.Request.{kind_in, after, answer_to, Ending, Finished, Stopped}
-pub use Rattle.login.specs.declared.status.{Kind.Kind, Kind.TheVariants.Normal, LoginFlags.LoginFlags}
+pub use Rattle.login.specs.declared.status.{SessionType.SessionType, SessionType.TheVariants.Normal, LoginFlags.LoginFlags}
 pub use Rattle.login.specs.declared.status.LoginStatus.TheVariants.{InvalidDuringLogin}
 pub use Rattle.scsi_types.specs.{Cdb.need_of, Cdb.Means, Lun.NamesUnit, Nexus.Port, ReplyValue.good, Status.status_code}
 pub use Rattle.scsi_types.specs.declared.{command.Command.Command, command.CdbFault.CdbFault, sense.Sense.Sense}

@@ -1,5 +1,5 @@
 use crate::start::Start;
-use login::Kind;
+use login::SessionType;
 
 /// How a session begins.
 #[derive(Clone, Copy)]
@@ -7,5 +7,5 @@ pub enum Opening {
     /// With a login, by a portal of the portal group with this tag (RFC 7143, 6.3).
     Login(u16),
     /// In full feature phase, as a session of this kind whose login came to this.
-    FullFeature(Kind, Start),
+    FullFeature(SessionType, Start),
 }

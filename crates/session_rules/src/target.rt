@@ -2,7 +2,7 @@ ghost use Rattle.std.specs.Prelude.{◌≡◌, ℕ};
 ghost use Rattle.session_rules.specs.Asking.{Asking, began, lives, served, reset, over};
 ghost use Rattle.session_rules.specs.Handle.{HasHandle};
 
-use login::Kind;
+use login::SessionType;
 use scsi_types::{Asked, Reply};
 
 /// What a target answers where a session is to begin.
@@ -52,7 +52,7 @@ pub trait Target {
 
     /// Begins a session of this kind, of the initiator port with this InitiatorName, of 1 to 223 bytes, and this ISID, below
     /// 2^48. Where it begins, the session of the same port and kind that lives is over from then on (RFC 7143, 6.3.5).
-    fn begin(&mut self, name: &[u8], isid: u64, kind: Kind) -> BeginAnswer
+    fn begin(&mut self, name: &[u8], isid: u64, kind: SessionType) -> BeginAnswer
         ensures leads { leads self.old (began (record { name = name.now; isid = isid }) kind result) self.new }
         ensures handle { HasHandle result };
 

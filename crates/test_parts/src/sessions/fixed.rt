@@ -1,7 +1,7 @@
 //! The target that the tables' sessions are served by.
 use crate::ends::fail;
 use crate::sessions::row::{named_texts, read};
-use login::Kind;
+use login::SessionType;
 use scsi_types::{Asked, Reply, Sense};
 use session::{BeginAnswer, ResetAnswer, Target, TargetAnswer};
 use std::alloc::{AllocError, Global};
@@ -170,7 +170,7 @@ impl Target for Fixed<'_> {
         1
     }
 
-    fn begin(&mut self, name: &[u8], isid: u64, kind: Kind) -> BeginAnswer {
+    fn begin(&mut self, name: &[u8], isid: u64, kind: SessionType) -> BeginAnswer {
         let name = shown(name);
         let kept = self.hear(format!(in self.alloc; "begin {name} {isid:012X} {kind:?}"));
         match self.answers.begin {

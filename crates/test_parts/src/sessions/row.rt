@@ -46,7 +46,7 @@
 use crate::ends::{fail, must};
 use crate::sessions::fixed::Answers;
 use crate::sessions::run::Wanted;
-use login::Kind;
+use login::SessionType;
 use session::{Lengths, Opening, Start};
 use std::alloc::Global;
 use std::process::Abort;
@@ -117,7 +117,7 @@ pub struct Row<'a> {
     /// The group of the portal by which it logs in; none where it begins in full feature phase, of this kind and with
     /// this start.
     login: Option<u16>,
-    kind: Kind,
+    kind: SessionType,
     begin: Begin,
     /// How many portals the second controller has.
     pub portals: usize,
@@ -177,7 +177,7 @@ impl<'a> Row<'a> {
             table,
             name: "",
             login: None,
-            kind: Kind::Normal,
+            kind: SessionType::Normal,
             begin: FROM_ONE,
             portals: 1,
             answers: Answers::first(),
@@ -282,7 +282,7 @@ impl<'a> Row<'a> {
             "each-place" => self.each_place = true,
             "all-blocks" => self.all_blocks = true,
             "ends" => self.ends = true,
-            "discovery" => self.kind = Kind::Discovery,
+            "discovery" => self.kind = SessionType::Discovery,
             _ => fail(rt, self.name, &word),
         }
     }

@@ -1,12 +1,12 @@
 use Rattle.std.proofs.Common.{◌≡◌, ℕ, ◌+◌, ◌<◌, List, ◌∷◌, ◌++◌, length, ap, arith, length-append}
-use Rattle.login.specs.declared.status.Kind.{Kind}
+use Rattle.login.specs.declared.status.SessionType.{SessionType}
 use Rattle.login.specs.Text.{Pair}
 use Rattle.login.specs.Targets.{answer_of, answers_of}
 use Rattle.login.proofs.within.answered_within.Goals as goal
 
 -- an answer without room leaves none for it and what is behind it
-too_long : (target : List ℕ) (kind : Kind) (told : List ℕ) (p : Pair) (ps qs : List Pair) (out start all : List ℕ) (most : ℕ)
-    → out ++ answers_of target kind told ps ≡ start ++ all → ps ≡ p ∷ qs
+too_long : (target : List ℕ) (kind : SessionType) (told : List ℕ) (p : Pair) (ps qs : List Pair)
+    (out start all : List ℕ) (most : ℕ) → out ++ answers_of target kind told ps ≡ start ++ all → ps ≡ p ∷ qs
     → most < length out + length (answer_of target kind told p.key p.value) → most < length start + length all
 too_long target kind told p ps qs out start all most put some more =
     let here : List ℕ = answer_of target kind told p.key p.value in

@@ -1,5 +1,5 @@
 use Rattle.std.proofs.Common.{arith, ap, length, map, subst, sym, List, ◌≤◌}
-use Rattle.login.specs.declared.status.Kind.TheVariants.{Normal}
+use Rattle.login.specs.declared.status.SessionType.TheVariants.{Normal}
 use Rattle.registrants.specs.Nexus.{through}
 use Rattle.std.specs.Vec.{vec_capacity}
 use Rattle.portal.specs.Submitted.{At}

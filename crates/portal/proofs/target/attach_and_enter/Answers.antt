@@ -1,5 +1,5 @@
 use Rattle.std.proofs.Common.{arith, ap, false, length, sym, subst, map, List, vec_capacity}
-use Rattle.login.specs.declared.status.Kind.TheVariants.{Normal}
+use Rattle.login.specs.declared.status.SessionType.TheVariants.{Normal}
 use Rattle.registrants.specs.Nexus.{through}
 use Rattle.portal.specs.Target.{Sight, IsGrounded, IsTurnedBack, Leaves}
 use Rattle.portal.specs.declared.target.BeginFault.{BeginFault}

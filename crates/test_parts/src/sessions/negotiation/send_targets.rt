@@ -2,60 +2,60 @@
 use crate::ends::must;
 use crate::sessions::row::named_texts;
 use crate::sessions::run::portal;
-use login::{Kind, TextEnd, send_targets};
+use login::{SessionType, TextEnd, send_targets};
 use std::alloc::Global;
 use std::process::Abort;
 use std::test::*;
 use test_connections::bytes_of;
 
 /// A name, the session's kind, a text, and the answer to it, both spelled as a PDU's data segment.
-type Row = (&'static str, Kind, &'static str, &'static str);
+type Row = (&'static str, SessionType, &'static str, &'static str);
 
 fn rows() -> &'static [Row] {
     &[
         (
             "all, in a discovery session",
-            Kind::Discovery,
+            SessionType::Discovery,
             r#""SendTargets=All\0""#,
             "THE_TARGET",
         ),
         (
             "all, in a normal session",
-            Kind::Normal,
+            SessionType::Normal,
             r#""SendTargets=All\0""#,
             r#""SendTargets=Reject\0""#,
         ),
         (
             "the target's name",
-            Kind::Normal,
+            SessionType::Normal,
             r#""SendTargets=iqn.2000-01.test:array\0""#,
             "THE_TARGET",
         ),
         (
             "the target's name, in a discovery session",
-            Kind::Discovery,
+            SessionType::Discovery,
             r#""SendTargets=iqn.2000-01.test:array\0""#,
             "THE_TARGET",
         ),
         (
             "the session's target",
-            Kind::Normal,
+            SessionType::Normal,
             r#""SendTargets=\0""#,
             "THE_TARGET",
         ),
         (
             "another target",
-            Kind::Discovery,
+            SessionType::Discovery,
             r#""SendTargets=iqn.2000-01.test:other\0""#,
             "",
         ),
         (
             "other keys",
-            Kind::Normal,
+            SessionType::Normal,
             r#""MaxBurstLength=512\0X-a=1\0SendTargets=all\0""#,
             r#""MaxBurstLength=Reject\0X-a=NotUnderstood\0""#,
         ),
-        ("nothing", Kind::Normal, "", ""),
+        ("nothing", SessionType::Normal, "", ""),
     ]
 }
 

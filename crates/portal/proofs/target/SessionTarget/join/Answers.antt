@@ -1,5 +1,5 @@
 use Rattle.std.proofs.Common.{◌∙◌, ◌<◌, All, List, arith, false, length, refl, sym, ap, map, subst, vec_capacity}
-use Rattle.login.specs.declared.status.Kind.TheVariants.{Normal}
+use Rattle.login.specs.declared.status.SessionType.TheVariants.{Normal}
 use Rattle.registrants.specs.Nexus.{through}
 use Rattle.portal.specs.Submitted.{At}
 use Rattle.portal.specs.Target.{TargetValue}

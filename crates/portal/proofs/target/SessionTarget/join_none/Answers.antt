@@ -1,5 +1,5 @@
 use Rattle.std.proofs.Common.{◌∙◌, false, refl, sym, ap, subst}
-use Rattle.login.specs.declared.status.Kind.TheVariants.{Discovery}
+use Rattle.login.specs.declared.status.SessionType.TheVariants.{Discovery}
 use Rattle.registrants.specs.Nexus.{through}
 use Rattle.portal.specs.Target.{TargetValue, IsGrounded, IsTurnedBack}
 use Rattle.portal.specs.declared.target.BeginFault.{BeginFault}
