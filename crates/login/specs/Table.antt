@@ -11,7 +11,7 @@ use Rattle.login.specs.declared.value.Rule.TheVariants.{Least, Greatest, Declare
 use Rattle.login.specs.declared.value.Value.{Value}
 use Rattle.login.specs.declared.value.Value.TheVariants.{Number, Flag, Word, Unset}
 
-pub record Row : Type 0 where
+pub record KeyRule : Type 0 where
   pub name : List ℕ
   pub rule : Rule
   pub default : Value
@@ -24,12 +24,12 @@ limits low high own = record { low = low; high = high; own = own }
 abbrev pub own_data_segment : ℕ
 own_data_segment = 65536
 
-abbrev pub row : List ℕ → Rule → Value → Row
+abbrev pub row : List ℕ → Rule → Value → KeyRule
 row name rule default = record { name = name; rule = rule; default = default }
 
 -- A list of words is agreed on where the target's word is in it. A number has its range and the target's own offer; a
 -- boolean has the target's own offer. The own length of a data segment is said by the target in stage 1.
-abbrev pub row_of : Key → Row
+abbrev pub row_of : Key → KeyRule
 row_of Of.AuthMethod = row (codes "AuthMethod") (Listed Unused) Unset
 row_of Of.HeaderDigest = row (codes "HeaderDigest") (Listed Unused) (Word Unused)
 row_of Of.DataDigest = row (codes "DataDigest") (Listed Unused) (Word Unused)
@@ -75,7 +75,7 @@ key_named name = find (has_name name) keys
 
 -- The value of a key that is in force after these pairs: the agreed one, or the default where the key was not
 -- offered, or was offered with a value that is not of its form or out of its range.
-abbrev pub value_after : Row → Option (List ℕ) → Value
+abbrev pub value_after : KeyRule → Option (List ℕ) → Value
 value_after r None = r.default
 value_after r (Some value) = unwrap_or (agreed r.rule value) r.default
 

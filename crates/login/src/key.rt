@@ -77,7 +77,7 @@ const KEYS: [Key; 25] = [
 
 /// A row of the table of keys.
 #[derive(Clone, Copy)]
-pub struct Row {
+pub struct KeyRule {
     /// The key's name.
     pub name: &'static [u8],
     /// How its value is found.
@@ -86,12 +86,12 @@ pub struct Row {
     pub default: Value,
 }
 
-fn entry(name: &'static [u8], rule: Rule, default: Value) -> Row
+fn entry(name: &'static [u8], rule: Rule, default: Value) -> KeyRule
     ensures name { result.name.now ≡ name.entry.now }
     ensures rule { result.rule ≡ rule }
     ensures default { result.default ≡ default }
 {
-    Row {
+    KeyRule {
         name,
         rule,
         default,
@@ -118,7 +118,7 @@ fn declared(low: u32, high: u32, own: u32) -> Rule
 
 impl Key {
     /// The key's row: its name, its rule and its default.
-    pub fn row(self) -> Row
+    pub fn row(self) -> KeyRule
         ensures name { result.name.now ≡ (row_of self).name }
         ensures rule { result.rule ≡ (row_of self).rule }
         ensures default { result.default ≡ (row_of self).default }

@@ -13,7 +13,7 @@ mod text;
 mod value;
 mod within;
 
-pub use key::{Key, Row};
+pub use key::{Key, KeyRule};
 pub use laws::{
     a_text_and_its_pairs, booleans_that_are_negotiated, numbers_that_are_negotiated,
     what_every_negotiation_comes_to, what_is_announced_is_in_force, what_the_target_says_once,
