@@ -120,7 +120,7 @@ impl Negotiation {
                 self.unfinished.truncate(before);
                 LoginEnd::NamesSession
             }
-            None => self.pass(out, flags),
+            None => self.proceed(out, flags),
         }
     }
 
@@ -256,7 +256,7 @@ impl Negotiation {
     }
 
     /// Goes on behind a request that passed the checks; its text is unfinished.
-    fn pass(&mut self, out: &mut Vec<u8>, flags: LoginFlags) -> LoginEnd
+    fn proceed(&mut self, out: &mut Vec<u8>, flags: LoginFlags) -> LoginEnd
         requires empty { length out.old.items ≡ 0 }
         requires room { LONGEST_RESPONSE ≤ vec_capacity out.old }
         requires fits { is_too_long self.old.said self.old.unfinished ≡ false }

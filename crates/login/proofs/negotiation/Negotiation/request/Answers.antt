@@ -5,8 +5,8 @@ use Rattle.login.specs.declared.status.Stop.TheVariants.{Refused}
 use Rattle.login.proofs.Turns.{not_long, judged, answer_stopped, state_stopped, restored, answer_passed, state_passed}
 use Rattle.login.proofs.negotiation.Negotiation.request.Goals as goal
 
-pub pass-requires-clause-fits : goal.pass-requires-clause-fits
-pass-requires-clause-fits c =
+pub proceed-requires-clause-fits : goal.proceed-requires-clause-fits
+proceed-requires-clause-fits c =
     ap (is_too_long c.self.inside.said.items) (sym c.deref.ensures.value)
     ∙ not_long _ c.args.flags c.deref.result.now (sym c.stop.ensures ∙ c.in-None.is)
 
@@ -44,11 +44,11 @@ returns-in-None-clause-answer c =
     let h = judged _ _ c.args.flags c.put_bytes.new.out.items c.deref.result.now c.args.text.now c.stop.result c.self.view_is
     c.put_bytes.ensures.put c.deref.ensures.value c.stop.ensures in
     answer_passed _ _ c.args.flags c.put_bytes.new.out.items c.args.text.now _ c.self.view_is
-    c.put_bytes.ensures.put (sym h ∙ c.in-None.is) c.pass.ensures.answer
+    c.put_bytes.ensures.put (sym h ∙ c.in-None.is) c.proceed.ensures.answer
 
 pub returns-in-None-clause-state : goal.returns-in-None-clause-state
 returns-in-None-clause-state c =
     let h = judged _ _ c.args.flags c.put_bytes.new.out.items c.deref.result.now c.args.text.now c.stop.result c.self.view_is
     c.put_bytes.ensures.put c.deref.ensures.value c.stop.ensures in
     state_passed _ _ _ c.args.flags c.put_bytes.new.out.items c.args.text.now c.self.view_is
-    c.put_bytes.ensures.put (sym h ∙ c.in-None.is) c.pass.ensures.state
+    c.put_bytes.ensures.put (sym h ∙ c.in-None.is) c.proceed.ensures.state

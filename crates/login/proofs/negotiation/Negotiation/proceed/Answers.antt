@@ -1,7 +1,7 @@
 use Rattle.std.proofs.Common.{◌<◌, subst, ap, ◌∙◌}
 use Rattle.login.specs.Progress.{Progress}
 use Rattle.login.proofs.Sizes.{response_room, response_put}
-use Rattle.login.proofs.negotiation.Negotiation.pass.Goals as goal
+use Rattle.login.proofs.negotiation.Negotiation.proceed.Goals as goal
 
 pub put_response-requires : goal.put_response-requires
 put_response-requires c = record {
