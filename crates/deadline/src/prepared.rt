@@ -22,8 +22,8 @@ const THREADS: usize = 16;
 enum Wanted {
     Advise(u64, u16),
     AdviseEdges(u64, u16),
-    Warm(u64, u16),
-    WarmEdges(u64, u16),
+    Fetch(u64, u16),
+    FetchEdges(u64, u16),
     Flush,
 }
 
@@ -83,8 +83,8 @@ impl<P: Preparer> Served<P> {
         match wanted {
             Wanted::Advise(first, blocks) => self.preparer.advise(first, blocks),
             Wanted::AdviseEdges(first, blocks) => self.preparer.advise_edges(first, blocks),
-            Wanted::Warm(first, blocks) => self.preparer.warm(first, blocks),
-            Wanted::WarmEdges(first, blocks) => self.preparer.warm_edges(first, blocks),
+            Wanted::Fetch(first, blocks) => self.preparer.fetch(first, blocks),
+            Wanted::FetchEdges(first, blocks) => self.preparer.fetch_edges(first, blocks),
             Wanted::Flush => return self.preparer.flush(),
         }
         false
@@ -223,7 +223,7 @@ impl<R: Wait + Clock + Drop, P: Preparer> DeadlinedPreparer<R, P> {
     }
 
     // Has a thread fetch blocks.
-    fn fetch(&self, wanted: Wanted) {
+    fn ask_fetcher(&self, wanted: Wanted) {
         if let Some(mut asker) = self.free(&self.fetchers) {
             ask_by(&mut asker, wanted, self.node, Call::Read);
         }
@@ -243,13 +243,13 @@ impl<R: Wait + Clock + Drop, P: Preparer> Preparer for DeadlinedPreparer<R, P> {
 
     fn advise(&self, first: u64, blocks: u16) {
         if self.is_slow() {
-            self.fetch(Wanted::Advise(first, blocks));
+            self.ask_fetcher(Wanted::Advise(first, blocks));
         }
     }
 
     fn advise_edges(&self, first: u64, blocks: u16) {
         if self.is_slow() {
-            self.fetch(Wanted::AdviseEdges(first, blocks));
+            self.ask_fetcher(Wanted::AdviseEdges(first, blocks));
         }
     }
 
@@ -259,12 +259,12 @@ impl<R: Wait + Clock + Drop, P: Preparer> Preparer for DeadlinedPreparer<R, P> {
         self.is_slow() || self.preparer.wants(serial) && self.watch.has_slept()
     }
 
-    fn warm(&self, first: u64, blocks: u16) {
-        self.fetch(Wanted::Warm(first, blocks));
+    fn fetch(&self, first: u64, blocks: u16) {
+        self.ask_fetcher(Wanted::Fetch(first, blocks));
     }
 
-    fn warm_edges(&self, first: u64, blocks: u16) {
-        self.fetch(Wanted::WarmEdges(first, blocks));
+    fn fetch_edges(&self, first: u64, blocks: u16) {
+        self.ask_fetcher(Wanted::FetchEdges(first, blocks));
     }
 
     fn flushes(&self) -> bool {

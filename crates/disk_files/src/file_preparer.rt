@@ -188,7 +188,7 @@ impl<R: Clock + Wait + Drop, F: LastingFile> FilePreparer<R, F> {
     }
 
     // Reads some bytes of the file, and looks how long that takes.
-    fn fetch(&self, file: &File, at: u64, length: usize) {
+    fn measure_read(&self, file: &File, at: u64, length: usize) {
         let Ok(begun) = self.rt.monotonic() else {
             return;
         };
@@ -294,24 +294,24 @@ impl<R: Clock + Wait + Drop, F: LastingFile> Preparer for FilePreparer<R, F> {
     }
 
     // A disk that counts as fast is looked at by the first bytes.
-    fn warm(&self, first: u64, blocks: u16) {
+    fn fetch(&self, first: u64, blocks: u16) {
         if let (Some(file), Some((at, length))) = (&self.file, place_of(first, blocks)) {
             let length = if self.is_slow() {
                 length
             } else {
                 length.min(LEAST)
             };
-            self.fetch(file.handle(), at, length);
+            self.measure_read(file.handle(), at, length);
         }
     }
 
-    fn warm_edges(&self, first: u64, blocks: u16) {
+    fn fetch_edges(&self, first: u64, blocks: u16) {
         let (head, tail) = edges_of(first, blocks);
         if let Some(head) = head {
-            self.warm(head, 1);
+            self.fetch(head, 1);
         }
         if let Some(tail) = tail {
-            self.warm(tail, 1);
+            self.fetch(tail, 1);
         }
     }
 

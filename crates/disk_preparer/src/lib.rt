@@ -59,10 +59,10 @@ pub trait Preparer: Drop {
 
     /// These blocks are read next: waits until the disk has fetched them, where it has been slow of late; else it looks how long the
     /// first of them take.
-    fn warm(&self, first: u64, blocks: u16);
+    fn fetch(&self, first: u64, blocks: u16);
 
     /// These blocks are written next: waits likewise for what the system has to read first.
-    fn warm_edges(&self, first: u64, blocks: u16);
+    fn fetch_edges(&self, first: u64, blocks: u16);
 
     /// Whether flushes may be left to it.
     fn flushes(&self) -> bool

@@ -94,9 +94,9 @@ impl<P: Preparer, N: Disks> Gate for Prepared<P, N> {
             return;
         }
         match asked {
-            Ok(Command::Read { lba, blocks, .. }) => preparer.warm(*lba, *blocks),
-            Ok(Command::Write { lba, blocks, .. }) => preparer.warm_edges(*lba, *blocks),
-            Ok(Command::CompareAndWrite { lba, blocks, .. }) => preparer.warm(*lba, *blocks),
+            Ok(Command::Read { lba, blocks, .. }) => preparer.fetch(*lba, *blocks),
+            Ok(Command::Write { lba, blocks, .. }) => preparer.fetch_edges(*lba, *blocks),
+            Ok(Command::CompareAndWrite { lba, blocks, .. }) => preparer.fetch(*lba, *blocks),
             _ => {}
         }
     }

@@ -45,11 +45,11 @@ impl Preparer for Counted {
         serial == 7
     }
 
-    fn warm(&self, _first: u64, _blocks: u16) {
+    fn fetch(&self, _first: u64, _blocks: u16) {
         self.counts.fetched.fetch_add(1, Ordering::Relaxed);
     }
 
-    fn warm_edges(&self, _first: u64, _blocks: u16) {}
+    fn fetch_edges(&self, _first: u64, _blocks: u16) {}
 
     fn flushes(&self) -> bool {
         self.flushes

@@ -86,8 +86,8 @@ fn prepare(preparer: &impl Preparer) {
     for (first, blocks) in &RUNS {
         preparer.advise(*first, *blocks);
         preparer.advise_edges(*first, *blocks);
-        preparer.warm(*first, *blocks);
-        preparer.warm_edges(*first, *blocks);
+        preparer.fetch(*first, *blocks);
+        preparer.fetch_edges(*first, *blocks);
         preparer.flush();
     }
 }
