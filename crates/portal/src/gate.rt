@@ -18,16 +18,16 @@ pub trait Gate {
     /// A flush is done that began when a session's pass was this. Nothing but a call of `flush_behind` says so.
     ghost lasts: { PlacedPass Entry → Type 0 };
 
-    /// The command with this serial of a session is about to be submitted to the unit at this place.
-    fn prefetch(&self, unit: usize, serial: u64, asked: &Asked);
+    /// The command with this serial of a session is about to be submitted to the unit at this place: what it needs is fetched first.
+    fn fetch(&self, unit: usize, serial: u64, asked: &Asked);
 
-    /// Whether it has a use for commands that wait.
-    fn foresees(&self) -> bool {
+    /// Whether it has a use for commands that wait to be served.
+    fn wants_prefetch(&self) -> bool {
         false
     }
 
-    /// A command of this unit waits to be served.
-    fn foresee(&self, _unit: u8, _asked: &Asked) {}
+    /// A command of this unit waits to be served: what it needs may be fetched meanwhile.
+    fn prefetch(&self, _unit: u8, _asked: &Asked) {}
 
     /// Whether the flushes of the commands of the unit at this place are left to it.
     fn flushes_behind(&self, unit: usize) -> bool
@@ -86,7 +86,7 @@ impl<P: Preparer, N: Disks> Gate for Prepared<P, N> {
 
     ghost lasts = { λ pass. P.has_flushed (N.disk pass.place) };
 
-    fn prefetch(&self, unit: usize, serial: u64, asked: &Asked) {
+    fn fetch(&self, unit: usize, serial: u64, asked: &Asked) {
         let Some(preparer) = self.of.get(unit) else {
             return;
         };
@@ -102,7 +102,7 @@ impl<P: Preparer, N: Disks> Gate for Prepared<P, N> {
     }
 
     // As long as any disk is slow, commands of all units are told.
-    fn foresees(&self) -> bool {
+    fn wants_prefetch(&self) -> bool {
         for preparer in &self.of {
             if preparer.is_slow() {
                 return true;
@@ -111,7 +111,7 @@ impl<P: Preparer, N: Disks> Gate for Prepared<P, N> {
         false
     }
 
-    fn foresee(&self, unit: u8, asked: &Asked) {
+    fn prefetch(&self, unit: u8, asked: &Asked) {
         let Some(preparer) = self.of.get(usize::from(unit)) else {
             return;
         };

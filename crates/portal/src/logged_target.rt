@@ -306,12 +306,12 @@ impl<
         self.observer.leave();
     }
 
-    fn foresees(&self) -> bool {
-        self.target.foresees()
+    fn wants_prefetch(&self) -> bool {
+        self.target.wants_prefetch()
     }
 
-    fn foresee(&self, unit: Option<u8>, asked: &Asked) {
-        self.target.foresee(unit, asked);
+    fn prefetch(&self, unit: Option<u8>, asked: &Asked) {
+        self.target.prefetch(unit, asked);
     }
 
     fn serve(&mut self, unit: Option<u8>, asked: Asked, bytes: &[u8]) -> TargetAnswer {

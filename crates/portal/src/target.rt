@@ -520,16 +520,16 @@ impl<
         }
     }
 
-    fn foresees(&self) -> bool {
-        self.device.gate.foresees()
+    fn wants_prefetch(&self) -> bool {
+        self.device.gate.wants_prefetch()
     }
 
-    fn foresee(&self, unit: Option<u8>, asked: &Asked) {
+    fn prefetch(&self, unit: Option<u8>, asked: &Asked) {
         match unit {
             Some(unit) if usize::from(unit) < self.at.len() => self
                 .device
                 .gate
-                .foresee(unit, asked),
+                .prefetch(unit, asked),
             _ => {}
         }
     }

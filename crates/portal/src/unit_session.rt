@@ -144,7 +144,7 @@ impl<P: Pass> UnitSession<P> {
         let Some(pass) = self.pass.take() else {
             unreachable!()
         };
-        gate.prefetch(pass.place(), pass.next_serial(), asked);
+        gate.fetch(pass.place(), pass.next_serial(), asked);
         let by_group = self.by_group;
         let (pass, end) = call(rt, alloc, units, gate, pass, by_group, asked, bytes);
         put_back(&mut self.pass, pass);

@@ -19,13 +19,13 @@ fn tell<T: Target>(target: &T, bhs: &[u8; BHS_LENGTH]) {
     if bhs[0] & 0x3F != SCSI_COMMAND {
         return;
     }
-    target.foresee(Lun::parse(&lun(bhs)), &decode(&cdb(bhs)));
+    target.prefetch(Lun::parse(&lun(bhs)), &decode(&cdb(bhs)));
 }
 
 /// Tells the target of the commands that wait in these bytes, where it wants that and more than one PDU does: a command that
 /// came alone is served now. What is no PDU ends it: the session finds that when it comes to it.
 pub fn look_ahead<T: Target>(target: &T, bytes: &[u8]) {
-    if bytes.len() <= BHS_LENGTH || !target.foresees() {
+    if bytes.len() <= BHS_LENGTH || !target.wants_prefetch() {
         return;
     }
     let mut rest = bytes;

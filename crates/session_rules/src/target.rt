@@ -65,13 +65,13 @@ pub trait Target {
         ensures { leads self.old over self.new };
 
     /// Whether it is told of commands that wait: a target whose disks take no time has no use for it.
-    fn foresees(&self) -> bool {
+    fn wants_prefetch(&self) -> bool {
         false
     }
 
     /// A command that has come, for the unit that its LUN names, and that is to be served when those before it are. A target
     /// may have its disk fetch what the command needs: nothing else, for it may never be served.
-    fn foresee(&self, _unit: Option<u8>, _asked: &Asked) {}
+    fn prefetch(&self, _unit: Option<u8>, _asked: &Asked) {}
 
     /// Serves a command of the unit that its LUN names, with the bytes that came for it: of a write as many as it
     /// needs and the initiator expects to send, else none. `unit` is none where the LUN names no unit.

@@ -65,7 +65,7 @@ impl<R: Wait + Drop> Gate for Doors<R> {
 
     ghost lasts = { λ pass. Unit {0} };
 
-    fn prefetch(&self, unit: usize, _serial: u64, _asked: &Asked) {
+    fn fetch(&self, unit: usize, _serial: u64, _asked: &Asked) {
         self.commands.wait_at(unit);
     }
 

@@ -128,10 +128,10 @@ fn each_unit_has_its_own_disk_made_ready_and_flushed(rt: HostRuntime) -> Result<
         let has_settled = gate.flush_behind(&At { place: *unit });
         must(&rt, has_settled == *is_done, "has settled", unit);
     }
-    must(&rt, !gate.foresees(), "the gate", &"foresees");
-    gate.prefetch(1, 7, &read);
-    gate.prefetch(0, 8, &read);
-    gate.prefetch(3, 7, &read);
+    must(&rt, !gate.wants_prefetch(), "the gate", &"wants prefetch");
+    gate.fetch(1, 7, &read);
+    gate.fetch(0, 8, &read);
+    gate.fetch(3, 7, &read);
     let mut counts = seen.iter();
     for fetched in &[0, 1, 0] {
         let disk = counts.next().expect(&rt, "a disk");
