@@ -1,22 +1,9 @@
 -- The BHS that is written of an initiator's header says that header.
 use Rattle.std.proofs.Common.{◌≡◌, ℕ, List, refl, sym, arith}
-use Rattle.iscsi_pdu.specs.declared.header.NopOut.{NopOut as NopOutHeader}
-use Rattle.iscsi_pdu.specs.declared.header.ScsiCommand.{ScsiCommand as ScsiCommandHeader}
-use Rattle.iscsi_pdu.specs.declared.header.TaskManagementRequest.{TaskManagementRequest as TaskManagementRequestHeader}
-use Rattle.iscsi_pdu.specs.declared.header.LoginRequest.{LoginRequest as LoginRequestHeader}
-use Rattle.iscsi_pdu.specs.declared.header.TextRequest.{TextRequest as TextRequestHeader}
-use Rattle.iscsi_pdu.specs.declared.header.DataOut.{DataOut as DataOutHeader}
-use Rattle.iscsi_pdu.specs.declared.header.LogoutRequest.{LogoutRequest as LogoutRequestHeader}
-use Rattle.iscsi_pdu.specs.declared.header.InitiatorHeader.{InitiatorHeader}
-use Rattle.iscsi_pdu.specs.declared.header.InitiatorHeader.TheVariants.{
-  NopOut,
-  ScsiCommand,
-  TaskManagementRequest,
-  LoginRequest,
-  TextRequest,
-  DataOut,
-  LogoutRequest,
-}
+use Rattle.iscsi_pdu.specs.Headers.{InitiatorHeader, NopOut, ScsiCommand, TaskManagementRequest, LoginRequest}
+use Rattle.iscsi_pdu.specs.Headers.{TextRequest, DataOut, LogoutRequest, NopOutHeader, ScsiCommandHeader}
+use Rattle.iscsi_pdu.specs.Headers.{TaskManagementRequestHeader, LoginRequestHeader, TextRequestHeader, DataOutHeader}
+use Rattle.iscsi_pdu.specs.Headers.{LogoutRequestHeader}
 use Rattle.iscsi_pdu.specs.Fields.{
   HasInitiatorFields,
   nop_out_at,

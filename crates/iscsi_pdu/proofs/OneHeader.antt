@@ -1,28 +1,10 @@
 -- A BHS says one header.
 use Rattle.std.proofs.Common.{◌≡◌, ℕ, List, nat_eq, sym, ap, ◌∙◌, arith, inl, inr}
 use Rattle.std.specs.Prelude.{if◌then◌else◌}
-use Rattle.iscsi_pdu.specs.declared.header.InitiatorHeader.{InitiatorHeader}
-use Rattle.iscsi_pdu.specs.declared.header.InitiatorHeader.TheVariants.{
-  NopOut,
-  ScsiCommand,
-  TaskManagementRequest,
-  LoginRequest,
-  TextRequest,
-  DataOut,
-  LogoutRequest,
-}
-use Rattle.iscsi_pdu.specs.declared.header.TargetHeader.{TargetHeader}
-use Rattle.iscsi_pdu.specs.declared.header.TargetHeader.TheVariants.{
-  NopIn,
-  ScsiResponse,
-  TaskManagementResponse,
-  LoginResponse,
-  TextResponse,
-  DataIn,
-  LogoutResponse,
-  R2t,
-  Reject,
-}
+use Rattle.iscsi_pdu.specs.Headers.{InitiatorHeader, NopOut, ScsiCommand, TaskManagementRequest, LoginRequest}
+use Rattle.iscsi_pdu.specs.Headers.{TextRequest, DataOut, LogoutRequest, TargetHeader, NopIn, ScsiResponse}
+use Rattle.iscsi_pdu.specs.Headers.{TaskManagementResponse, LoginResponse, TextResponse, DataIn, LogoutResponse, R2t}
+use Rattle.iscsi_pdu.specs.Headers.{Reject}
 use Rattle.iscsi_pdu.specs.Fields.{opcode_of, HasInitiatorFields, HasTargetFields, nop_out_at, scsi_command_at}
 use Rattle.iscsi_pdu.specs.Fields.{task_management_request_at, login_request_at, text_request_at, data_out_at}
 use Rattle.iscsi_pdu.specs.Fields.{logout_request_at, nop_in_at, scsi_response_at, task_management_response_at}

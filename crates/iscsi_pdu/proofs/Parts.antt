@@ -3,30 +3,10 @@ use Rattle.std.proofs.Common.{◌≡◌, ℕ, ◌^◌, ◌<◌, List, ◌++◌, 
 use Rattle.std.specs.Prelude.{slice_index}
 use Rattle.byteorder.specs.Endian.{big_number, big_bytes}
 use Rattle.byteorder.specs.Numbers.{big_number-reads_back}
-use Rattle.iscsi_pdu.specs.declared.header.InitiatorHeader.{InitiatorHeader}
-use Rattle.iscsi_pdu.specs.declared.header.InitiatorHeader.TheVariants.{
-  NopOut,
-  ScsiCommand,
-  TaskManagementRequest,
-  LoginRequest,
-  TextRequest,
-  DataOut,
-  LogoutRequest,
-}
-use Rattle.iscsi_pdu.specs.declared.header.TargetHeader.{TargetHeader}
-use Rattle.iscsi_pdu.specs.declared.header.TargetHeader.TheVariants.{
-  NopIn,
-  ScsiResponse,
-  TaskManagementResponse,
-  LoginResponse,
-  TextResponse,
-  DataIn,
-  LogoutResponse,
-  R2t,
-  Reject,
-}
-use Rattle.iscsi_pdu.specs.declared.header.Header.{Header}
-use Rattle.iscsi_pdu.specs.declared.header.Header.TheVariants.{Initiator, Target}
+use Rattle.iscsi_pdu.specs.Headers.{Header, Initiator, Target, InitiatorHeader, NopOut, ScsiCommand}
+use Rattle.iscsi_pdu.specs.Headers.{TaskManagementRequest, LoginRequest, TextRequest, DataOut, LogoutRequest}
+use Rattle.iscsi_pdu.specs.Headers.{TargetHeader, NopIn, ScsiResponse, TaskManagementResponse, LoginResponse}
+use Rattle.iscsi_pdu.specs.Headers.{TextResponse, DataIn, LogoutResponse, R2t, Reject}
 use Rattle.iscsi_pdu.specs.Number.{three_at}
 use Rattle.iscsi_pdu.specs.Spelling.{initiator_bhs, target_bhs, bhs}
 

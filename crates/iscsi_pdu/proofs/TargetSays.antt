@@ -1,26 +1,9 @@
 -- The BHS that is written of a target's header says that header.
 use Rattle.std.proofs.Common.{◌≡◌, ℕ, List, refl, sym}
-use Rattle.iscsi_pdu.specs.declared.header.NopIn.{NopIn as NopInHeader}
-use Rattle.iscsi_pdu.specs.declared.header.ScsiResponse.{ScsiResponse as ScsiResponseHeader}
-use Rattle.iscsi_pdu.specs.declared.header.TaskManagementResponse.{TaskManagementResponse as TaskManagementResponseHeader}
-use Rattle.iscsi_pdu.specs.declared.header.LoginResponse.{LoginResponse as LoginResponseHeader}
-use Rattle.iscsi_pdu.specs.declared.header.TextResponse.{TextResponse as TextResponseHeader}
-use Rattle.iscsi_pdu.specs.declared.header.DataIn.{DataIn as DataInHeader}
-use Rattle.iscsi_pdu.specs.declared.header.LogoutResponse.{LogoutResponse as LogoutResponseHeader}
-use Rattle.iscsi_pdu.specs.declared.header.R2t.{R2t as R2tHeader}
-use Rattle.iscsi_pdu.specs.declared.header.Reject.{Reject as RejectHeader}
-use Rattle.iscsi_pdu.specs.declared.header.TargetHeader.{TargetHeader}
-use Rattle.iscsi_pdu.specs.declared.header.TargetHeader.TheVariants.{
-  NopIn,
-  ScsiResponse,
-  TaskManagementResponse,
-  LoginResponse,
-  TextResponse,
-  DataIn,
-  LogoutResponse,
-  R2t,
-  Reject,
-}
+use Rattle.iscsi_pdu.specs.Headers.{TargetHeader, NopIn, ScsiResponse, TaskManagementResponse, LoginResponse}
+use Rattle.iscsi_pdu.specs.Headers.{TextResponse, DataIn, LogoutResponse, R2t, Reject, NopInHeader, ScsiResponseHeader}
+use Rattle.iscsi_pdu.specs.Headers.{TaskManagementResponseHeader, LoginResponseHeader, TextResponseHeader, DataInHeader}
+use Rattle.iscsi_pdu.specs.Headers.{LogoutResponseHeader, R2tHeader, RejectHeader}
 use Rattle.iscsi_pdu.specs.Fields.{
   HasTargetFields,
   nop_in_at,

@@ -2,44 +2,13 @@
 use Rattle.std.specs.Prelude.{◌≡◌, ◌⊎◌, ℕ, ◌/◌, ◌%◌, true, false, List, slice_index, slice_range}
 use Rattle.iscsi_pdu.specs.declared.header.CommandNumbers.{CommandNumbers}
 use Rattle.iscsi_pdu.specs.declared.header.Numbers.{Numbers}
-use Rattle.iscsi_pdu.specs.declared.header.NopOut.{NopOut as NopOutHeader}
-use Rattle.iscsi_pdu.specs.declared.header.ScsiCommand.{ScsiCommand as ScsiCommandHeader}
-use Rattle.iscsi_pdu.specs.declared.header.TaskManagementRequest.{TaskManagementRequest as TaskManagementRequestHeader}
-use Rattle.iscsi_pdu.specs.declared.header.LoginRequest.{LoginRequest as LoginRequestHeader}
-use Rattle.iscsi_pdu.specs.declared.header.TextRequest.{TextRequest as TextRequestHeader}
-use Rattle.iscsi_pdu.specs.declared.header.DataOut.{DataOut as DataOutHeader}
-use Rattle.iscsi_pdu.specs.declared.header.LogoutRequest.{LogoutRequest as LogoutRequestHeader}
-use Rattle.iscsi_pdu.specs.declared.header.NopIn.{NopIn as NopInHeader}
-use Rattle.iscsi_pdu.specs.declared.header.ScsiResponse.{ScsiResponse as ScsiResponseHeader}
-use Rattle.iscsi_pdu.specs.declared.header.TaskManagementResponse.{TaskManagementResponse as TaskManagementResponseHeader}
-use Rattle.iscsi_pdu.specs.declared.header.LoginResponse.{LoginResponse as LoginResponseHeader}
-use Rattle.iscsi_pdu.specs.declared.header.TextResponse.{TextResponse as TextResponseHeader}
-use Rattle.iscsi_pdu.specs.declared.header.DataIn.{DataIn as DataInHeader}
-use Rattle.iscsi_pdu.specs.declared.header.LogoutResponse.{LogoutResponse as LogoutResponseHeader}
-use Rattle.iscsi_pdu.specs.declared.header.R2t.{R2t as R2tHeader}
-use Rattle.iscsi_pdu.specs.declared.header.Reject.{Reject as RejectHeader}
-use Rattle.iscsi_pdu.specs.declared.header.InitiatorHeader.{InitiatorHeader}
-use Rattle.iscsi_pdu.specs.declared.header.InitiatorHeader.TheVariants.{
-  NopOut,
-  ScsiCommand,
-  TaskManagementRequest,
-  LoginRequest,
-  TextRequest,
-  DataOut,
-  LogoutRequest,
-}
-use Rattle.iscsi_pdu.specs.declared.header.TargetHeader.{TargetHeader}
-use Rattle.iscsi_pdu.specs.declared.header.TargetHeader.TheVariants.{
-  NopIn,
-  ScsiResponse,
-  TaskManagementResponse,
-  LoginResponse,
-  TextResponse,
-  DataIn,
-  LogoutResponse,
-  R2t,
-  Reject,
-}
+use Rattle.iscsi_pdu.specs.Headers.{InitiatorHeader, NopOut, ScsiCommand, TaskManagementRequest, LoginRequest}
+use Rattle.iscsi_pdu.specs.Headers.{TextRequest, DataOut, LogoutRequest, TargetHeader, NopIn, ScsiResponse}
+use Rattle.iscsi_pdu.specs.Headers.{TaskManagementResponse, LoginResponse, TextResponse, DataIn, LogoutResponse, R2t}
+use Rattle.iscsi_pdu.specs.Headers.{Reject, NopOutHeader, ScsiCommandHeader, TaskManagementRequestHeader}
+use Rattle.iscsi_pdu.specs.Headers.{LoginRequestHeader, TextRequestHeader, DataOutHeader, LogoutRequestHeader}
+use Rattle.iscsi_pdu.specs.Headers.{NopInHeader, ScsiResponseHeader, TaskManagementResponseHeader, LoginResponseHeader}
+use Rattle.iscsi_pdu.specs.Headers.{TextResponseHeader, DataInHeader, LogoutResponseHeader, R2tHeader, RejectHeader}
 use Rattle.iscsi_pdu.specs.Number.{bit, half_at, word_at}
 
 -- the opcode: the low six bits of byte 0; the bit above them is the immediate bit (11.2.1)

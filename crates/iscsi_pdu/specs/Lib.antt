@@ -1,5 +1,6 @@
 pub mod Fault
 pub mod Fields
+pub mod Headers
 pub mod Number
 pub mod Pdu
 pub mod Range

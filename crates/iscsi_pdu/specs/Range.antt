@@ -2,30 +2,10 @@
 use Rattle.std.specs.Prelude.{◌≡◌, ℕ, ◌^◌, ◌<◌, List, length, IsTrue}
 use Rattle.iscsi_pdu.specs.declared.header.CommandNumbers.{CommandNumbers}
 use Rattle.iscsi_pdu.specs.declared.header.Numbers.{Numbers}
-use Rattle.iscsi_pdu.specs.declared.header.InitiatorHeader.{InitiatorHeader}
-use Rattle.iscsi_pdu.specs.declared.header.InitiatorHeader.TheVariants.{
-  NopOut,
-  ScsiCommand,
-  TaskManagementRequest,
-  LoginRequest,
-  TextRequest,
-  DataOut,
-  LogoutRequest,
-}
-use Rattle.iscsi_pdu.specs.declared.header.TargetHeader.{TargetHeader}
-use Rattle.iscsi_pdu.specs.declared.header.TargetHeader.TheVariants.{
-  NopIn,
-  ScsiResponse,
-  TaskManagementResponse,
-  LoginResponse,
-  TextResponse,
-  DataIn,
-  LogoutResponse,
-  R2t,
-  Reject,
-}
-use Rattle.iscsi_pdu.specs.declared.header.Header.{Header}
-use Rattle.iscsi_pdu.specs.declared.header.Header.TheVariants.{Initiator, Target}
+use Rattle.iscsi_pdu.specs.Headers.{Header, Initiator, Target, InitiatorHeader, NopOut, ScsiCommand}
+use Rattle.iscsi_pdu.specs.Headers.{TaskManagementRequest, LoginRequest, TextRequest, DataOut, LogoutRequest}
+use Rattle.iscsi_pdu.specs.Headers.{TargetHeader, NopIn, ScsiResponse, TaskManagementResponse, LoginResponse}
+use Rattle.iscsi_pdu.specs.Headers.{TextResponse, DataIn, LogoutResponse, R2t, Reject}
 
 abbrev pub IsHalf : ℕ → Type 0
 IsHalf n = n < 2 ^ 16
