@@ -10,7 +10,7 @@ use Rattle.std.specs.Net.Text.{dotted_text, ipv4_text, socket_v4_text}
 use Rattle.std.specs.declared.net.socket_addr.SocketAddrV4.{SocketAddrV4}
 use Rattle.std.proofs.lemmas.Bool.Decides.{nat_tests}
 use Rattle.std.proofs.lemmas.List.Folds.{list_all-append}
-use Rattle.event_log.specs.Words.{access_text, kind_text, stayed_text, action_text, operation_text, part_text, call_text, resource_text}
+use Rattle.event_log.specs.Words.{access_text, session_type_text, stayed_text, action_text, operation_text, part_text, call_text, resource_text}
 use Rattle.event_log.specs.Words.{unusable_text, named, statuses, status_text, rejects, reject_text, errors, error_text}
 use Rattle.event_log.specs.Text.{is_plain, are_plain, hex_digit, escaped, quoted, joined, hex, initiator_in, path_in, by_in, cause_in}
 use Rattle.event_log.specs.Text.{why_in, session_in, error_in}
@@ -25,8 +25,8 @@ use Rattle.event_log.specs.declared.event.By.{By}
 use Rattle.event_log.specs.declared.event.By.TheVariants.{Console, Session}
 use Rattle.event_log.specs.declared.event.Event.{Event}
 use Rattle.event_log.specs.declared.event.Event.TheVariants as events
-use Rattle.event_log.specs.declared.words.Kind.{Kind}
-use Rattle.event_log.specs.declared.words.Kind.TheVariants as kinds
+use Rattle.event_log.specs.declared.words.SessionType.{SessionType}
+use Rattle.event_log.specs.declared.words.SessionType.TheVariants as session_types
 use Rattle.event_log.specs.declared.words.Stayed.{Stayed}
 use Rattle.event_log.specs.declared.words.Stayed.TheVariants as stayeds
 use Rattle.event_log.specs.declared.words.Access.{Access}
@@ -140,9 +140,9 @@ quoted_plain bytes = join (flat_map escaped bytes) (34 ∷ []) (many bytes) refl
 
 -- ---- words
 
-kind_plain : (x : Kind) → are_plain (kind_text x) ≡ true
-kind_plain kinds.Normal = refl
-kind_plain kinds.Discovery = refl
+session_type_plain : (x : SessionType) → are_plain (session_type_text x) ≡ true
+session_type_plain session_types.Normal = refl
+session_type_plain session_types.Discovery = refl
 
 stayed_plain : (x : Stayed) → are_plain (stayed_text x) ≡ true
 stayed_plain stayeds.NotOpened = refl
@@ -270,8 +270,8 @@ each (events.CannotListen controller portal n) = both _ _ (number controller) (b
 each events.Ready = refl
 each events.Stopping = refl
 each (events.LoggedIn who by tsih kind) =
-    let rest : List (List ℕ) = codes " tsih=" ∷ decimal tsih ∷ codes " type=" ∷ kind_text kind ∷ [] in
-    initiator who (path_in by rest) (path by rest (both _ _ (number tsih) (both _ _ (kind_plain kind) refl)))
+    let rest : List (List ℕ) = codes " tsih=" ∷ decimal tsih ∷ codes " type=" ∷ session_type_text kind ∷ [] in
+    initiator who (path_in by rest) (path by rest (both _ _ (number tsih) (both _ _ (session_type_plain kind) refl)))
 each (events.LoginRefused who by status lacks) =
     let rest : List (List ℕ) = codes " status=0x" ∷ hex status ∷ codes " words=\"" ∷ status_text status ∷ codes "\"" ∷ cause_in lacks
     in initiator who (path_in by rest)

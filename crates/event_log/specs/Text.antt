@@ -24,7 +24,7 @@ use Rattle.event_log.specs.declared.line.Piece.{Piece}
 use Rattle.event_log.specs.declared.line.Piece.TheVariants as pieces
 use Rattle.event_log.specs.declared.event.Event.{Event}
 use Rattle.event_log.specs.declared.event.Event.TheVariants as events
-use Rattle.event_log.specs.Words.{access_text, kind_text, stayed_text, action_text, operation_text, part_text, call_text, resource_text}
+use Rattle.event_log.specs.Words.{access_text, session_type_text, stayed_text, action_text, operation_text, part_text, call_text, resource_text}
 use Rattle.event_log.specs.Words.{unusable_text, status_text, reject_text, error_text}
 
 -- ---- what a name is between quotes
@@ -147,7 +147,7 @@ parts events.Ready = codes "event=ready" ∷ []
 parts events.Stopping = codes "event=stopping" ∷ []
 parts (events.LoggedIn who path tsih kind) =
     codes "event=login" ∷ initiator_in who (path_in path
-    (codes " tsih=" ∷ decimal tsih ∷ codes " type=" ∷ kind_text kind ∷ []))
+    (codes " tsih=" ∷ decimal tsih ∷ codes " type=" ∷ session_type_text kind ∷ []))
 parts (events.LoginRefused who path status cause) =
     codes "event=login_refused" ∷ initiator_in who (path_in path
     (codes " status=0x" ∷ hex status ∷ codes " words=\"" ∷ status_text status ∷ codes "\"" ∷ cause_in cause))

@@ -1,7 +1,7 @@
 -- The words of the log: one name each, of lower-case letters, or what the standard calls it.
 use Rattle.std.specs.Prelude.{ℕ, nat_eq, if◌then◌else◌, List, [], ◌∷◌, codes}
-use Rattle.event_log.specs.declared.words.Kind.{Kind}
-use Rattle.event_log.specs.declared.words.Kind.TheVariants as kinds
+use Rattle.event_log.specs.declared.words.SessionType.{SessionType}
+use Rattle.event_log.specs.declared.words.SessionType.TheVariants as session_types
 use Rattle.event_log.specs.declared.words.Stayed.{Stayed}
 use Rattle.event_log.specs.declared.words.Stayed.TheVariants as stayeds
 use Rattle.event_log.specs.declared.words.Access.{Access}
@@ -19,9 +19,9 @@ use Rattle.event_log.specs.declared.words.Resource.TheVariants as resources
 use Rattle.event_log.specs.declared.words.Unusable.{Unusable}
 use Rattle.event_log.specs.declared.words.Unusable.TheVariants as unusables
 
-abbrev pub kind_text : Kind → List ℕ
-kind_text kinds.Normal = codes "normal"
-kind_text kinds.Discovery = codes "discovery"
+abbrev pub session_type_text : SessionType → List ℕ
+session_type_text session_types.Normal = codes "normal"
+session_type_text session_types.Discovery = codes "discovery"
 
 abbrev pub stayed_text : Stayed → List ℕ
 stayed_text stayeds.NotOpened = codes "not_opened"

@@ -1,7 +1,8 @@
 //! What happened.
 
 use crate::words::{
-    Access, Action, Call, Cause, Kind, Operation, Part, Resource, Sense, Stayed, Unusable, Why,
+    Access, Action, Call, Cause, Operation, Part, Resource, Sense, SessionType, Stayed, Unusable,
+    Why,
 };
 use std::net::SocketAddrV4;
 
@@ -57,7 +58,7 @@ pub enum Event<'a> {
     /// No command is taken in any more.
     Stopping,
     /// A login was done: the session's TSIH and kind.
-    LoggedIn(Initiator<'a>, Path, u16, Kind),
+    LoggedIn(Initiator<'a>, Path, u16, SessionType),
     /// A login was refused: Status-Class and Status-Detail (RFC 7143, 11.13.5), and what the array lacked.
     LoginRefused(Initiator<'a>, Path, u16, Cause),
     /// A session ended that had logged in: its TSIH, and why.

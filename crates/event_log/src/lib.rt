@@ -24,6 +24,7 @@ pub use meters::{Hand, Meters, Seen, SessionSeen, Visit};
 pub use spelling::spell;
 pub use stamp::Stamp;
 pub use words::{
-    Access, Action, Call, Cause, Kind, Operation, Part, Resource, Sense, Stayed, Unusable, Why,
+    Access, Action, Call, Cause, Operation, Part, Resource, Sense, SessionType, Stayed, Unusable,
+    Why,
 };
 pub use writer::{Page, close, start};

@@ -4,7 +4,7 @@
 use crate::counts::{Counts, Served};
 use crate::event::{Event, Initiator, Path};
 use crate::happenings::Happenings;
-use crate::words::{Kind, Operation};
+use crate::words::{Operation, SessionType};
 use std::alloc::{AllocError, Global};
 use std::hint::spin_loop;
 use std::sync::atomic::{AtomicU64, Ordering};
@@ -24,7 +24,7 @@ pub struct Visit {
     pub isid: u64,
     pub path: Path,
     pub tsih: u16,
-    pub kind: Kind,
+    pub kind: SessionType,
     pub since: Duration,
 }
 
@@ -35,7 +35,7 @@ impl Visit {
         who: Initiator<'_>,
         path: Path,
         tsih: u16,
-        kind: Kind,
+        kind: SessionType,
         since: Duration,
     ) -> Result<Visit, AllocError> {
         Ok(Visit {
@@ -117,7 +117,7 @@ pub struct SessionSeen {
     pub isid: u64,
     pub path: Path,
     pub tsih: u16,
-    pub kind: Kind,
+    pub kind: SessionType,
     pub since: Duration,
     /// Its last command, and for how many microseconds it has ended.
     pub last: Option<Operation>,

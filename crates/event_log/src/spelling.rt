@@ -11,7 +11,7 @@ use crate::event::{By, Event, Initiator, Path, Place, Reservation};
 use crate::line::Piece::{Address, Hex, Name, Number, Text};
 use crate::line::put;
 use crate::words::{
-    Access, Call, Cause, Kind, Operation, Part, Sense, Stayed, Unusable, Why, error_text,
+    Access, Call, Cause, Operation, Part, Sense, SessionType, Stayed, Unusable, Why, error_text,
     reject_text, status_text,
 };
 use std::alloc::AllocError;
@@ -205,7 +205,7 @@ fn logged_in(
     who: &Initiator<'_>,
     by: &Path,
     tsih: u16,
-    kind: Kind,
+    kind: SessionType,
 ) -> Result<(), AllocError>
     ensures { OnOk result (string_bytes line.new
         ≡ joined (string_bytes line.old) (parts (events.LoggedIn who.now by.now tsih kind))) }

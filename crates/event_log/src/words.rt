@@ -1,11 +1,11 @@
 //! The words of the log.
 ghost use Rattle.std.specs.Prelude.{◌≡◌};
-ghost use Rattle.event_log.specs.Words.{access_text, action_text, call_text, error_text, kind_text, operation_text, part_text, resource_text};
+ghost use Rattle.event_log.specs.Words.{access_text, action_text, call_text, error_text, session_type_text, operation_text, part_text, resource_text};
 ghost use Rattle.event_log.specs.Words.{status_text, stayed_text, unusable_text, reject_text};
 
 /// What a session is for (RFC 7143, 4.3).
 #[derive(Clone, Copy)]
-pub enum Kind {
+pub enum SessionType {
     Normal,
     Discovery,
 }
@@ -143,13 +143,13 @@ pub enum Unusable {
     NoMemory,
 }
 
-impl Kind {
+impl SessionType {
     pub fn text(self) -> &'static str
-        ensures { result.now ≡ kind_text self }
+        ensures { result.now ≡ session_type_text self }
     {
         match self {
-            Kind::Normal => "normal",
-            Kind::Discovery => "discovery",
+            SessionType::Normal => "normal",
+            SessionType::Discovery => "discovery",
         }
     }
 }

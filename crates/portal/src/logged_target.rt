@@ -254,10 +254,10 @@ fn cause_of(fault: BeginFault) -> Cause {
 }
 
 // What a session is for, as the log names it.
-fn kind_of(kind: SessionType) -> event_log::Kind {
+fn kind_of(kind: SessionType) -> event_log::SessionType {
     match kind {
-        SessionType::Normal => event_log::Kind::Normal,
-        SessionType::Discovery => event_log::Kind::Discovery,
+        SessionType::Normal => event_log::SessionType::Normal,
+        SessionType::Discovery => event_log::SessionType::Discovery,
     }
 }
 

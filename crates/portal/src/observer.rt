@@ -2,7 +2,7 @@
 
 use crate::counted::served_of;
 use crate::target::BeginFault;
-use event_log::{Event, Hand, Initiator, Kind, Log, Path, Visit};
+use event_log::{Event, Hand, Initiator, Log, Path, SessionType, Visit};
 use scsi_types::Asked;
 use session::TargetAnswer;
 use std::alloc::Global;
@@ -40,7 +40,13 @@ impl<'a, R: Wait + Clock> Observer<'a, R> {
     }
 
     // What counts the commands of a session that has begun, where they are counted and there is memory for it.
-    fn hand_of(&self, alloc: Global, who: Initiator<'_>, tsih: u16, kind: Kind) -> Option<Hand> {
+    fn hand_of(
+        &self,
+        alloc: Global,
+        who: Initiator<'_>,
+        tsih: u16,
+        kind: SessionType,
+    ) -> Option<Hand> {
         let meters = self.log.meters()?;
         let since = self.rt.since_1970().unwrap_or(Duration::ZERO);
         let visit = Visit::new(alloc, who, self.path, tsih, kind, since).ok()?;
@@ -53,7 +59,7 @@ impl<'a, R: Wait + Clock> Observer<'a, R> {
         alloc: Global,
         who: Initiator<'_>,
         tried: Result<u16, BeginFault>,
-        kind: Kind,
+        kind: SessionType,
     ) {
         if let Ok(tsih) = tried
             && let Ok(mut hand) = self.hand.try_borrow_mut()

@@ -1,8 +1,8 @@
 //! The lines of the log, as they are to be read.
 use crate::ends::must;
 use event_log::{
-    Access, Action, By, Call, Cause, Event, Initiator, Kind, Part, Path, Place, Reservation, Stamp,
-    Stayed, Why, spell,
+    Access, Action, By, Call, Cause, Event, Initiator, Part, Path, Place, Reservation, SessionType,
+    Stamp, Stayed, Why, spell,
 };
 use std::alloc::Global;
 use std::net::{Ipv4Addr, SocketAddrV4};
@@ -54,7 +54,7 @@ fn events_are_spelled(rt: HostRuntime) -> Result<(), Fail> {
     let rows = [
         (Event::Ready, "event=ready"),
         (
-            Event::LoggedIn(WHO, path(), 3, Kind::Normal),
+            Event::LoggedIn(WHO, path(), 3, SessionType::Normal),
             "event=login initiator=\"iqn.a\\x0a\\\"b\\\\\\x1b[2J\\xff\" isid=0x400001370000 \
              from=10.0.5.7:41022 portal=10.0.5.1:3264 tag=2 tsih=3 type=normal",
         ),
