@@ -1,3 +1,4 @@
+pub mod Answering
 pub mod CommandLaws
 pub mod EntryLaws
 pub mod HistoryLaws

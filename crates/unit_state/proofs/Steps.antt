@@ -21,6 +21,7 @@ use Rattle.unit_control.specs.Route.{IsAdmitted, IsRefused}
 use Rattle.unit_control.specs.Entry.{Entry, Command, IsNext, count_command}
 use Rattle.unit_control.specs.Answer.{IsAnswerWith, IsAnswer, IsServed, Lasts}
 use Rattle.unit_control.specs.Groups.{is_opening}
+use Rattle.unit_state.specs.Answered.{LacksMemory}
 use Rattle.unit_state.specs.Step.{IsStep, OnRefusal, asks_opener, MayTake, TakesMemory, entry_of}
 
 -- a command that a rule refuses
@@ -36,7 +37,7 @@ refused_answer claims old new before now r refused reply is told control same = 
   answer = refl;
 })
 
-done_answer : (claims : Bool) (old new : UnitState) (command : ScsiCommand) (bytes : List ℕ) (reply : ReplyValue)
+pub done_answer : (claims : Bool) (old new : UnitState) (command : ScsiCommand) (bytes : List ℕ) (reply : ReplyValue)
     (session : ℕ) → IsServed claims old new session command bytes reply
     → IsAnswerWith claims old new (request session (Ok command) bytes) None
     (choice_of reply new.blocks new.control.lasting) reply
@@ -106,10 +107,11 @@ pub step_seen : {B R O : Type 0} (claims : Bool) (contents : B → List (List �
 step_seen {B = B} {R = R} {O = O} claims contents inside seen new entry reply same step =
     subst (λ (u : UnitValue B R O). IsStep claims (state_of contents u) new entry reply) same step
 
-pub memory_seen : {B R O : Type 0} (inside seen : UnitValue B R O) (r : Request) → inside ≡ seen
-    → TakesMemory inside.control r → TakesMemory seen.control r
-memory_seen {B = B} {R = R} {O = O} inside seen r same takes =
-    subst (λ (u : UnitValue B R O). TakesMemory u.control r) same takes
+pub lacking_seen : {B R O : Type 0} (inside seen new : UnitValue B R O) (r : Request) → inside ≡ seen
+    → LacksMemory (refusal inside.control r) r inside new → TakesMemory seen.control r
+lacking_seen {B = B} {R = R} {O = O} inside seen new r same lacks =
+    subst (λ (u : UnitValue B R O). TakesMemory u.control r) same
+    (record { unrefused = lacks.unrefused; takes = lacks.takes })
 
 pub unreached_seen : {B R O : Type 0} (inside seen : UnitValue B R O) (r : Request) (new : B) → inside ≡ seen
     → OnRefusal (refusal inside.control r) (new ≡ inside.device)

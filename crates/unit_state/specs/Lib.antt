@@ -1,3 +1,4 @@
+pub mod Answered
 pub mod History
 pub mod Moves
 pub mod Serials

@@ -1,18 +1,15 @@
 //! What a command is answered.
-ghost use Rattle.std.specs.Prelude.{◌≡◌, ◌≢◌, ◌+◌, ◌++◌, ◌&&◌, ℕ, false, IsTrue, IfOk, OnErr, Ok};
+ghost use Rattle.std.specs.Prelude.{◌≡◌, ℕ, false, IsTrue, IfOk, OnErr, Ok, None};
 ghost use Rattle.block_file.specs.Failures.{Tells};
-ghost use Rattle.unit_control.specs.Answer.{IsAnswer, IsServed, Lasts};
-ghost use Rattle.access_states.specs.AccessMap.{owner_of};
+ghost use Rattle.unit_control.specs.Answer.{IsServed, Lasts};
 ghost use Rattle.unit_control.specs.Choice.{IsFine, choice_of};
 ghost use Rattle.unit_control.specs.Counts.{AreCounted, counters};
-ghost use Rattle.unit_control.specs.Crash.{HoldsAsBefore, LeavesAmong, holds_after, holds_with, saved_of, saved_with};
-ghost use Rattle.unit_control.specs.Medium.{Fits, is_medium, work_of, work_asked};
+ghost use Rattle.unit_control.specs.Crash.{LeavesAmong, holds_after};
+ghost use Rattle.unit_control.specs.Medium.{Fits, is_medium, work_of};
 ghost use Rattle.identity.specs.SenseData.{told_sense};
 ghost use Rattle.identity.specs.Table.{cut};
 ghost use Rattle.scsi_types.specs.Sense.{sense_bytes};
 ghost use Rattle.unit_control.specs.Entry.{described};
-ghost use Rattle.unit_control.specs.Groups.{is_opening};
-ghost use Rattle.aptpl_file.specs.Lasts.{LastsAmong, StopsAt};
 ghost use Rattle.scsi_types.specs.declared.command.Command.TheVariants.{PersistentReserveOut, SetTargetPortGroups};
 ghost use Rattle.scsi_types.specs.declared.reservation.PrOutAction.{PrOutAction};
 ghost use Rattle.unit_control.specs.Reserve.{HasList};
@@ -20,17 +17,16 @@ ghost use Rattle.unit_control.specs.Sessions.{first_pending};
 ghost use Rattle.unit_control.specs.Places.{IsPlaceOf, Stays};
 ghost use Rattle.unit_control.specs.Refusal.{refusal, refusal_control, request, tell};
 ghost use Rattle.unit_control.specs.State.{unit_of};
-ghost use Rattle.unit_state.specs.Step.{MayTake, OnRefusal, asks_file, asks_medium, asks_opener, is_describing};
-ghost use Rattle.unit_state.specs.Step.{is_reserving, TakesMemory};
+ghost use Rattle.unit_state.specs.Answered.{HasLeft, HasReplied, LacksMemory, unit_over};
+ghost use Rattle.unit_state.specs.Step.{MayTake, is_describing};
 
+use crate::devices::UnitDevices;
 use crate::reserve::{pr_out, reservation_data};
 use crate::rules::admit;
-use aptpl_file::RegFile;
 use block_file::{BLOCK_LENGTH, Blocks, Opener};
 use identity::{
     inquiry, mode_sense, read_capacity_10, read_capacity_16, report_luns, request_sense,
 };
-use reservations::Registry;
 use scsi_types::{Asked, Command, NoMemory, Reply};
 use std::alloc::Global;
 use unit_control::groups::set_groups;
@@ -40,60 +36,25 @@ use unit_control::{Control, Refusal, Sender};
 
 /// Answers a command: the refusal of the first rule that applies, else what the command returns. Memory is taken for
 /// the data of a reply alone, before anything changes.
-pub fn answer<B: Blocks, O: Opener<B>, F: Blocks>(
-    device: &mut B,
-    opener: &mut O,
-    file: &mut RegFile<F>,
-    scratch: &mut Registry,
+pub fn answer<B: Blocks, F: Blocks, O: Opener<B>>(
+    devices: &mut UnitDevices<B, F, O>,
     control: &mut Control,
     alloc: Global,
     sender: Sender,
     asked: Asked,
     bytes: &[u8],
 ) -> Result<Reply, NoMemory>
-    requires total { control.old.total ≡ B.size device.old }
+    requires total { control.old.total ≡ B.size devices.old.device }
     requires place { IsPlaceOf control.old.sessions sender.session sender.at }
-    ensures size { B.size device.new ≡ B.size device.old }
-    ensures stays { Stays control.old control.new sender.session sender.at }
-    ensures err { OnErr result ((device.new ≡ device.old) × (opener.new ≡ opener.old) × (file.new ≡ file.old)
-        × (control.new ≡ control.old)) }
-    ensures kept { IsTrue F.claims → LastsAmong F.size F.may_hold file.old control.old.lasting
-        → LastsAmong F.size F.may_hold file.new control.new.lasting }
-    ensures memory { OnErr result (TakesMemory control.old (request sender.session asked bytes.now)) }
-    ensures answered { IfOk result (IsAnswer (O.claims && B.claims) (unit_of control.old (B.contents device.old))
-        (unit_of control.new (B.contents device.new))
-        (request sender.session asked bytes.now)) }
-    ensures unreached { OnRefusal (refusal control.old (request sender.session asked bytes.now))
-        (device.new ≡ device.old) }
-    ensures idle { asks_medium control.old (request sender.session asked bytes.now) ≡ false
-        → asks_opener control.old (request sender.session asked bytes.now) ≡ false → device.new ≡ device.old }
-    ensures unopened { asks_opener control.old (request sender.session asked bytes.now) ≡ false
-        → opener.new ≡ opener.old }
-    ensures unsaved { asks_file control.old (request sender.session asked bytes.now) ≡ false → file.new ≡ file.old }
-    ensures counted { IfOk result (λ reply. AreCounted
-        (counters (B.reads_failed device.old) (B.writes_failed device.old) (O.opens_failed opener.old)
-        (F.failures file.old.device))
-        (counters (B.reads_failed device.new) (B.writes_failed device.new) (O.opens_failed opener.new)
-        (F.failures file.new.device))
-        (choice_of reply (B.contents device.new) control.new.lasting)) }
-    ensures opened { owner_of control.new.access ≢ owner_of control.old.access → O.opened device.old device.new }
-    ensures fine { IfOk result (λ reply. Tells
-        (B.failures device.old + O.opens_failed opener.old + F.failures file.old.device)
-        (B.failures device.new + O.opens_failed opener.new + F.failures file.new.device)
-        (IsFine (choice_of reply (B.contents device.new) control.new.lasting))) }
-    ensures lasts { IsTrue B.claims → IfOk result (Lasts (B.contents device.new) (B.may_hold device.new)
-        (work_asked asked bytes.now)) }
-    ensures left { IsTrue (O.claims && B.claims) → IfOk result (λ reply.
-        LeavesAmong B.claims_moments B.moment B.left_since B.size B.may_hold
-        (holds_with (refusal control.old (request sender.session asked bytes.now)) (B.contents device.old)
-        (work_asked asked bytes.now) (choice_of reply (B.contents device.new) control.new.lasting)
-        (B.may_hold device.old)) device.old device.new) }
-    ensures same { asks_medium control.old (request sender.session asked bytes.now) ≡ false → IsTrue O.claims
-        → HoldsAsBefore B.moment B.left_since B.may_hold device.old device.new }
-    ensures stop { IsTrue F.claims → IsTrue F.claims_moments
-        → LastsAmong F.size F.may_hold file.old control.old.lasting → StopsAt F.moment F.left_since
-        (saved_with (refusal control.old (request sender.session asked bytes.now)) control.old
-        (request sender.session asked bytes.now) ++ control.old.lasting) file.old.device file.new.device }
+    ensures leaves { let r = request sender.session asked bytes.now in
+        HasLeft B.Blocks F.Blocks O.Opener (refusal control.old r) r sender.at
+        (unit_over devices.old control.old) (unit_over devices.new control.new) }
+    ensures replied { let r = request sender.session asked bytes.now in
+        IfOk result (HasReplied B.Blocks F.Blocks O.Opener (refusal control.old r) r
+        (unit_over devices.old control.old) (unit_over devices.new control.new)) }
+    ensures err { let r = request sender.session asked bytes.now in
+        OnErr result (LacksMemory (refusal control.old r) r
+        (unit_over devices.old control.old) (unit_over devices.new control.new)) }
 {
     let command = match admit(control, sender, asked, bytes) {
         Ok(command) => command,
@@ -102,9 +63,7 @@ pub fn answer<B: Blocks, O: Opener<B>, F: Blocks>(
             return Ok(refusal.reply(alloc));
         }
     };
-    serve(
-        device, opener, file, scratch, control, alloc, sender, command, bytes,
-    )
+    serve(devices, control, alloc, sender, command, bytes)
 }
 
 /// What telling a refusal changes.
@@ -122,61 +81,29 @@ fn refuse(control: &mut Control, sender: Sender, refusal: Refusal)
 }
 
 /// Serves a command that no rule refuses.
-fn serve<B: Blocks, O: Opener<B>, F: Blocks>(
-    device: &mut B,
-    opener: &mut O,
-    file: &mut RegFile<F>,
-    scratch: &mut Registry,
+fn serve<B: Blocks, F: Blocks, O: Opener<B>>(
+    devices: &mut UnitDevices<B, F, O>,
     control: &mut Control,
     alloc: Global,
     sender: Sender,
     command: Command,
     bytes: &[u8],
 ) -> Result<Reply, NoMemory>
-    requires fits { Fits (B.size device.old) (work_of command bytes.now) }
+    requires fits { Fits (B.size devices.old.device) (work_of command bytes.now) }
     requires list { HasList control.old command bytes.now }
     requires place { IsPlaceOf control.old.sessions sender.session sender.at }
-    ensures size { B.size device.new ≡ B.size device.old }
-    ensures stays { Stays control.old control.new sender.session sender.at }
-    ensures err { OnErr result ((device.new ≡ device.old) × (opener.new ≡ opener.old) × (file.new ≡ file.old)
-        × (control.new ≡ control.old)) }
-    ensures kept { IsTrue F.claims → LastsAmong F.size F.may_hold file.old control.old.lasting
-        → LastsAmong F.size F.may_hold file.new control.new.lasting }
-    ensures memory { OnErr result (MayTake (Ok command)) }
-    ensures served { IfOk result (IsServed (O.claims && B.claims) (unit_of control.old (B.contents device.old))
-        (unit_of control.new (B.contents device.new)) sender.session command bytes.now) }
-    ensures idle { is_medium (work_of command bytes.now) ≡ false → is_opening control.old (Ok command) bytes.now ≡ false
-        → device.new ≡ device.old }
-    ensures unopened { is_opening control.old (Ok command) bytes.now ≡ false → opener.new ≡ opener.old }
-    ensures unsaved { is_reserving (Ok command) ≡ false → file.new ≡ file.old }
-    ensures counted { IfOk result (λ reply. AreCounted
-        (counters (B.reads_failed device.old) (B.writes_failed device.old) (O.opens_failed opener.old)
-        (F.failures file.old.device))
-        (counters (B.reads_failed device.new) (B.writes_failed device.new) (O.opens_failed opener.new)
-        (F.failures file.new.device))
-        (choice_of reply (B.contents device.new) control.new.lasting)) }
-    ensures opened { owner_of control.new.access ≢ owner_of control.old.access → O.opened device.old device.new }
-    ensures fine { IfOk result (λ reply. Tells
-        (B.failures device.old + O.opens_failed opener.old + F.failures file.old.device)
-        (B.failures device.new + O.opens_failed opener.new + F.failures file.new.device)
-        (IsFine (choice_of reply (B.contents device.new) control.new.lasting))) }
-    ensures lasts { IsTrue B.claims → IfOk result (Lasts (B.contents device.new) (B.may_hold device.new)
-        (work_of command bytes.now)) }
-    ensures left { IsTrue (O.claims && B.claims) → IfOk result (λ reply.
-        LeavesAmong B.claims_moments B.moment B.left_since B.size B.may_hold
-        (holds_after (B.contents device.old) (work_of command bytes.now)
-        (choice_of reply (B.contents device.new) control.new.lasting) (B.may_hold device.old)) device.old device.new) }
-    ensures same { is_medium (work_of command bytes.now) ≡ false → IsTrue O.claims
-        → HoldsAsBefore B.moment B.left_since B.may_hold device.old device.new }
-    ensures stop { IsTrue F.claims → IsTrue F.claims_moments
-        → LastsAmong F.size F.may_hold file.old control.old.lasting → StopsAt F.moment F.left_since
-        (saved_of control.old sender.session command bytes.now ++ control.old.lasting)
-        file.old.device file.new.device }
+    ensures leaves { HasLeft B.Blocks F.Blocks O.Opener None (request sender.session (Ok command) bytes.now) sender.at
+        (unit_over devices.old control.old) (unit_over devices.new control.new) }
+    ensures replied { IfOk result (HasReplied B.Blocks F.Blocks O.Opener None
+        (request sender.session (Ok command) bytes.now)
+        (unit_over devices.old control.old) (unit_over devices.new control.new)) }
+    ensures err { OnErr result (LacksMemory None (request sender.session (Ok command) bytes.now)
+        (unit_over devices.old control.old) (unit_over devices.new control.new)) }
 {
     match command {
         Command::SetTargetPortGroups { list_length } => Ok(set_groups(
-            device,
-            opener,
+            &mut devices.device,
+            &mut devices.opener,
             control,
             alloc,
             sender,
@@ -189,9 +116,9 @@ fn serve<B: Blocks, O: Opener<B>, F: Blocks>(
             kind,
             ..
         } => Ok(reserve(
-            file,
+            &mut devices.file,
             control,
-            scratch,
+            &mut devices.scratch,
             alloc,
             sender,
             pr_out(action, scope, kind, bytes),
@@ -209,7 +136,7 @@ fn serve<B: Blocks, O: Opener<B>, F: Blocks>(
         | Command::ReportTargetPortGroups { .. }
         | Command::ReadCapacity10
         | Command::ReadCapacity16 { .. } => {
-            perform(device, control, alloc, sender, command, bytes)
+            perform(&mut devices.device, control, alloc, sender, command, bytes)
         }
     }
 }

@@ -2,6 +2,7 @@
 #![tactic(auto)]
 
 mod commands;
+mod devices;
 pub mod laws;
 mod ops;
 mod reserve;

@@ -5,6 +5,7 @@ ghost use Rattle.aptpl_file.specs.Lasts.{EachOutcomeHolds, LastsAmong, StopsAt};
 ghost use Rattle.unit_control.specs.Limits.{last_length};
 
 use crate::commands::answer;
+use crate::devices::UnitDevices;
 use access_states::{AsetFault, Cause, Change};
 use aptpl_file::RegFile;
 use block_file::{Blocks, DeviceFailed, Opener};
@@ -48,25 +49,23 @@ pub enum MoveFault {
 /// that device leaves one of the records that `lasting` names, where its type claims what is said of a crash.
 #[derive(Drop)]
 pub struct Unit<B: Blocks, F: Blocks, O: Opener<B>> {
-    device: B,
-    opener: O,
-    file: RegFile<F>,
+    devices: UnitDevices<B, F, O>,
     control: Control,
-    // Where a PERSISTENT RESERVE OUT makes its registry.
-    scratch: Registry,
 }
 
 impl<B: Blocks, F: Blocks, O: Opener<B>> Model for Unit<B, F, O> {
     ghost use Rattle.std.specs.Prelude.{◌≡◌, ◌<◌, IsTrue};
     ghost use Rattle.aptpl_file.specs.Lasts.{LastsAmong};
     ghost use Rattle.unit_control.specs.State.{UnitValue};
+    ghost use Rattle.unit_state.specs.Answered.{unit_over};
 
     ghost Value = { UnitValue B F O };
 
-    ghost view = { λ u. record { device = u.device; opener = u.opener; file = u.file; control = u.control } };
+    ghost view = { λ u. unit_over u.devices u.control };
 
-    ghost invariant = { λ u. (u.control.total ≡ B.size u.device)
-        × (IsTrue F.claims → LastsAmong F.size F.may_hold u.file u.control.lasting) × (0 < B.size u.device) };
+    ghost invariant = { λ u. (u.control.total ≡ B.size u.devices.device)
+        × (IsTrue F.claims → LastsAmong F.size F.may_hold u.devices.file u.control.lasting)
+        × (0 < B.size u.devices.device) };
 }
 
 impl<B: Blocks, F: Blocks, O: Opener<B>> Unit<B, F, O> {
@@ -109,11 +108,13 @@ impl<B: Blocks, F: Blocks, O: Opener<B>> Unit<B, F, O> {
         let control = Control::new(alloc, place, blocks.count(), lasted)?;
         let scratch = Registry::new(alloc)?;
         Ok(Unit {
-            device: blocks,
-            opener,
-            file,
+            devices: UnitDevices {
+                device: blocks,
+                opener,
+                file,
+                scratch,
+            },
             control,
-            scratch,
         })
     }
 
@@ -248,10 +249,7 @@ impl<B: Blocks, F: Blocks, O: Opener<B>> Unit<B, F, O> {
             Route::At(at) => Sender { session, at },
         };
         let reply = match answer(
-            &mut self.device,
-            &mut self.opener,
-            &mut self.file,
-            &mut self.scratch,
+            &mut self.devices,
             &mut self.control,
             alloc,
             sender,
@@ -294,8 +292,8 @@ impl<B: Blocks, F: Blocks, O: Opener<B>> Unit<B, F, O> {
         };
         let moved = self.control.access().change_to(&access);
         match change(
-            &mut self.device,
-            &mut self.opener,
+            &mut self.devices.device,
+            &mut self.devices.opener,
             &mut self.control,
             None,
             access,
@@ -320,7 +318,7 @@ impl<B: Blocks, F: Blocks, O: Opener<B>> Unit<B, F, O> {
         ensures failures { Counts (failures_of B.failures O.opens_failed F.failures self.old)
             (failures_of B.failures O.opens_failed F.failures self.new) result }
     {
-        self.device.flush()
+        self.devices.device.flush()
     }
 
     /// Hands the device, the device of the registration file and the opener back. A crash of the second leaves one of the
@@ -331,6 +329,10 @@ impl<B: Blocks, F: Blocks, O: Opener<B>> Unit<B, F, O> {
         ensures restart { IsTrue F.claims
             → EachOutcomeHolds (F.size result.1) (F.may_hold result.1) self.control.lasting }
     {
-        (self.device, self.file.close(), self.opener)
+        (
+            self.devices.device,
+            self.devices.file.close(),
+            self.devices.opener,
+        )
     }
 }
