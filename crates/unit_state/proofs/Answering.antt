@@ -10,16 +10,16 @@ use Rattle.scsi_types.specs.ReplyValue.{ReplyValue}
 use Rattle.scsi_types.specs.declared.command.Command.{Command}
 use Rattle.scsi_types.specs.declared.command.CdbFault.{CdbFault}
 use Rattle.unit_control.specs.declared.refusal.Refusal.{Refusal}
-use Rattle.unit_control.specs.Answer.{IsServed, IsServedSo, Lasts}
+use Rattle.unit_control.specs.Answer.{IsServed, Lasts}
 use Rattle.unit_control.specs.Choice.{Choice, Fine, IsFine, choice_of}
-use Rattle.unit_control.specs.Counts.{AreCounted, Counters, counters, counters_of}
+use Rattle.unit_control.specs.Counts.{AreCounted, Counters, counters}
 use Rattle.unit_control.specs.Crash.{HoldsAsBefore, LeavesAmong, holds_after, saved_of}
 use Rattle.unit_control.specs.Groups.{is_opening}
 use Rattle.unit_control.specs.Medium.{Work, Nothing, is_medium, work_asked, work_of}
 use Rattle.unit_control.specs.Places.{Stays}
 use Rattle.unit_control.specs.Refusal.{Request, request, refusal, refusal_control, refusal_reply}
 use Rattle.unit_control.specs.Route.{IsAdmitted, IsRefused}
-use Rattle.unit_control.specs.State.{ControlValue, UnitState, UnitValue, state_of, unit_of}
+use Rattle.unit_control.specs.State.{ControlValue, UnitState, UnitValue, unit_of}
 use Rattle.unit_control.proofs.Changes.{first_claims, second_claims}
 use Rattle.unit_state.specs.Answered.{HasLeft, HasReplied, LacksMemory, unit_over}
 use Rattle.unit_state.specs.Step.{MayTake, OnRefusal, is_reserving}

@@ -1,5 +1,5 @@
 -- What a power loss may leave of a unit's devices.
-use Rattle.std.proofs.Common.{◌≡◌, inl, ℕ, Bool, false, List, ◌++◌, Option, Some, None, Ok, Err, Result, IfOk, refl, sym, subst, ap, arith}
+use Rattle.std.proofs.Common.{◌≡◌, inl, ℕ, Bool, false, List, ◌++◌, Option, Some, None, refl, sym, subst, arith}
 use Rattle.std.specs.Prelude.{IsTrue}
 use Rattle.aptpl_file.specs.Holds.{HoldsOneOf}
 use Rattle.aptpl_file.specs.Lasts.{LastsAmong, StopsAt}
@@ -11,15 +11,13 @@ use Rattle.reservations.specs.declared.request.PrOut.{PrOut}
 use Rattle.scsi_types.specs.ReplyValue.{ReplyValue}
 use Rattle.scsi_types.specs.declared.command.Command.{Command}
 use Rattle.scsi_types.specs.declared.command.Command.TheVariants.{PersistentReserveOut}
-use Rattle.scsi_types.specs.declared.command.CdbFault.{CdbFault}
 use Rattle.scsi_types.specs.declared.reservation.PrOutAction.{PrOutAction}
 use Rattle.unit_control.specs.declared.refusal.Refusal.{Refusal}
 use Rattle.unit_control.specs.Choice.{Choice, Fine, ReadFailed, WriteFailed, OpenFailed, SaveFailed, choice_of}
 use Rattle.unit_control.specs.Crash.{HoldsAsBefore, LeavesAmong, holds_after, holds_compared, holds_with, saved_by, saved_of, saved_with}
-use Rattle.unit_control.specs.Medium.{Work, Range, Nothing, Reads, Writes, Compares, Flushes, difference_in, is_medium, reply_by, work_asked, work_of}
-use Rattle.unit_control.specs.Refusal.{Request, request, refusal}
+use Rattle.unit_control.specs.Medium.{Work, Range, Nothing, Reads, Writes, Compares, Flushes, difference_in, reply_by}
+use Rattle.unit_control.specs.Refusal.{Request, refusal}
 use Rattle.unit_control.specs.Reserve.{effect_by, pr_out}
-use Rattle.unit_control.specs.Route.{IsAdmitted}
 use Rattle.unit_control.specs.State.{ControlValue, UnitValue}
 use Rattle.unit_state.specs.Step.{asks_medium}
 use Rattle.unit_control.specs.Worked.{choice_at, finding_at}
@@ -115,23 +113,6 @@ module _ {D : Type 0} (claims_moments : Bool) (moment : D → ℕ) (left_since :
       subst (λ (u : UnitValue D R O). asks_medium u.control r ≡ false → IsTrue claims
       → HoldsAsBefore moment left_since may_hold u.device new) same kept
 
-  pub served_left : {E : Type 0} (c : ControlValue) (session : ℕ) (asked : Result Command CdbFault) (bytes : List ℕ)
-      (command : Command) (blocks : List (List ℕ)) (choice : ReplyValue → Choice) (old new : D) (result : Result ReplyValue E)
-      → IsAdmitted c (request session asked bytes) command
-      → IfOk result (λ reply. Left (holds_after blocks (work_of command bytes) (choice reply) (may_hold old)) old new)
-      → IfOk result (λ reply. Left (holds_with (refusal c (request session asked bytes)) blocks (work_asked asked bytes)
-      (choice reply) (may_hold old)) old new)
-  served_left c session asked bytes command blocks choice old new (Ok reply) is left =
-      rw (is.unrefused, is.asks) left
-  served_left c session asked bytes command blocks choice old new (Err e) is left = tt
-
--- the medium is worked on by a command that no rule refuses, and that does
-pub works_as : (c : ControlValue) (session : ℕ) (asked : Result Command CdbFault) (bytes : List ℕ) (command : Command)
-    → IsAdmitted c (request session asked bytes) command
-    → asks_medium c (request session asked bytes) ≡ is_medium (work_of command bytes)
-works_as c session asked bytes command is =
-    rw is.unrefused (ap (λ (a : Result Command CdbFault). is_medium (work_asked a bytes)) is.asks)
-
 -- ---- the registration file
 
 pub stop_seen : {B R O : Type 0} (claims moments : Bool) (moment : R → ℕ) (left_since : R → ℕ → List (List ℕ) → Type 0)
@@ -158,10 +139,3 @@ module _ {D : Type 0} (moment : D → ℕ) (left_since : D → ℕ → List (Lis
       → StopsAt moment left_since (saved_of c session command bytes ++ c.lasting) old new
   reserved_stop c session command action scope kind n bytes asked old new is same stop =
       rw is (subst (λ (q : PrOut). StopsAt moment left_since (saved_by (effect_by c session q) ++ c.lasting) old new) same stop)
-
-  pub served_stop : (c : ControlValue) (session : ℕ) (asked : Result Command CdbFault) (bytes : List ℕ) (command : Command)
-      (old new : D) → IsAdmitted c (request session asked bytes) command
-      → StopsAt moment left_since (saved_of c session command bytes ++ c.lasting) old new
-      → StopsAt moment left_since (saved_with (refusal c (request session asked bytes)) c (request session asked bytes)
-      ++ c.lasting) old new
-  served_stop c session asked bytes command old new is stop = rw (is.unrefused, is.asks) stop

@@ -1,7 +1,6 @@
 -- Commands that were served: what each of them tells of reply, choice and control.
-use Rattle.std.proofs.Common.{◌+◌, ◌≡◌, ℕ, ◌<◌, Bool, List, [], Ok, refl, sym, ap, subst, ⊎_elim, arith}
+use Rattle.std.proofs.Common.{◌≡◌, ℕ, Bool, List, [], Ok, refl, sym, ap, subst, ⊎_elim}
 use Rattle.std.specs.Prelude.{IsTrue}
-use Rattle.block_file.specs.Failures.{Tells}
 use Rattle.compare_write.specs.declared.end.MediumEnd.{MediumEnd}
 use Rattle.reservations.specs.Table.{Effect, Done as Reserved, Conflicting, Refused, Full}
 use Rattle.scsi_types.specs.declared.reservation.PrOutAction.{PrOutAction}
@@ -14,9 +13,9 @@ use Rattle.scsi_types.specs.declared.command.Command.{Command}
 use Rattle.scsi_types.specs.declared.command.Command.TheVariants as commands
 use Rattle.unit_control.specs.Answer.{IsServed}
 use Rattle.unit_control.specs.State.{ControlValue, unit_of}
-use Rattle.unit_control.specs.Choice.{Choice, Fine, IsFine, ReadFailed, WriteFailed, OpenFailed, SaveFailed, choice_of}
+use Rattle.unit_control.specs.Choice.{Choice, Fine, ReadFailed, WriteFailed, OpenFailed, SaveFailed, choice_of}
 use Rattle.unit_control.specs.Entry.{MayCome, described, left_by, returned_by}
-use Rattle.unit_state.specs.Step.{is_describing, MayTake}
+use Rattle.unit_state.specs.Step.{is_describing}
 use Rattle.unit_control.specs.Medium.{Work, MayChoose, Nothing, Reads, Writes, Compares, Flushes}
 use Rattle.unit_control.specs.Medium.{Finding, Done, SaveError, reply_by}
 use Rattle.unit_control.specs.Medium.{work_of}
@@ -146,16 +145,6 @@ pub reserved_ok : (claims : Bool) (c now : ControlValue) (blocks : List (List �
 reserved_ok claims c now blocks session command action scope kind n bytes asked reply is same ends =
     rw is (reserved_served claims c now blocks session action scope kind n bytes reply
     (subst (λ (q : PrOut). IsReserved c (effect_by c session q) now reply) same ends))
-
--- the other counts stay
-pub counts_beside : (others before after : ℕ) (blocks : List (List ℕ)) (lasting : List RecordValue)
-    (reply : ReplyValue) → Tells before after (IsFine (choice_of reply blocks lasting))
-    → Tells (others + before) (others + after) (IsFine (choice_of reply blocks lasting))
-counts_beside others before after blocks lasting reply t = record {
-  later = let le = t.later in omega arith;
-  stays = λ room d. let same : after ≡ before = t.stays (omega arith) d in omega arith;
-  rises = λ room failed. let up : before < after = t.rises (omega arith) failed in omega arith;
-}
 
 -- ---- commands of which the unit only tells
 

@@ -1,6 +1,6 @@
 -- A step of the unit is an entry of the model.
 use Rattle.std.specs.Prelude.{IsTrue}
-use Rattle.std.proofs.Common.{◌≡◌, ℕ, Bool, false, List, [], None, Ok, Err, Result, IfOk, OnErr, refl, sym, subst, ap, ◌∙◌}
+use Rattle.std.proofs.Common.{◌≡◌, ℕ, Bool, List, [], None, Ok, Result, refl, sym, subst, ap, ◌∙◌}
 use Rattle.access_states.specs.AccessMap.{owner_of}
 use Rattle.aptpl_file.specs.Lasts.{EachOutcomeHolds, FileValue, LastsAmong}
 use Rattle.aptpl_file.proofs.LastsLaws.{each_outcome_holds}
@@ -17,12 +17,11 @@ use Rattle.unit_control.specs.State.{ControlValue, UnitState, UnitValue, state_o
 use Rattle.unit_control.specs.Choice.{Choice, Fine, choice_of}
 use Rattle.unit_control.specs.Medium.{Work}
 use Rattle.unit_control.specs.Refusal.{Request, request, refusal, refusal_reply, refusal_control}
-use Rattle.unit_control.specs.Route.{IsAdmitted, IsRefused}
+use Rattle.unit_control.specs.Route.{IsRefused}
 use Rattle.unit_control.specs.Entry.{Entry, Command, IsNext, count_command}
 use Rattle.unit_control.specs.Answer.{IsAnswerWith, IsAnswer, IsServed, Lasts}
-use Rattle.unit_control.specs.Groups.{is_opening}
 use Rattle.unit_state.specs.Answered.{LacksMemory}
-use Rattle.unit_state.specs.Step.{IsStep, OnRefusal, asks_opener, MayTake, TakesMemory, entry_of}
+use Rattle.unit_state.specs.Step.{IsStep, OnRefusal, TakesMemory, entry_of}
 
 -- a command that a rule refuses
 pub refused_answer : (claims : Bool) (old new : ControlValue) (before now : List (List ℕ)) (r : Request)
@@ -37,6 +36,7 @@ refused_answer claims old new before now r refused reply is told control same = 
   answer = refl;
 })
 
+-- a command that did what it asks
 pub done_answer : (claims : Bool) (old new : UnitState) (command : ScsiCommand) (bytes : List ℕ) (reply : ReplyValue)
     (session : ℕ) → IsServed claims old new session command bytes reply
     → IsAnswerWith claims old new (request session (Ok command) bytes) None
@@ -48,25 +48,6 @@ done_answer claims old new command bytes reply session done = record {
   blocks = done.leaves;
   answer = record { finding = done.finding; may = done.may; is = done.answers; told = done.told };
 }
-
--- a command that no rule refuses
-pub served_answer : (claims : Bool) (old new : UnitState) (session : ℕ) (asked : Result ScsiCommand CdbFault)
-    (bytes : List ℕ) (command : ScsiCommand) (reply : ReplyValue) → IsAdmitted old.control
-    (request session asked bytes) command → IsServed claims old new session command bytes reply
-    → IsAnswer claims old new (request session asked bytes) reply
-served_answer claims old new session asked bytes command reply is done =
-    let none : refusal old.control (request session (Ok command) bytes) ≡ None =
-    subst (λ (a : Result ScsiCommand CdbFault). refusal old.control (request session a bytes) ≡ None) is.asks is.unrefused in
-    subst (λ (a : Result ScsiCommand CdbFault). IsAnswer claims old new (request session a bytes) reply) (sym is.asks)
-    (rw none (done_answer claims old new command bytes reply session done))
-
-pub served_ok : {E : Type 0} (claims : Bool) (old new : UnitState) (session : ℕ) (asked : Result ScsiCommand CdbFault)
-    (bytes : List ℕ) (command : ScsiCommand) (result : Result ReplyValue E) → IsAdmitted old.control
-    (request session asked bytes) command → IfOk result (IsServed claims old new session command bytes)
-    → IfOk result (IsAnswer claims old new (request session asked bytes))
-served_ok claims old new session asked bytes command (Ok reply) is done =
-    served_answer claims old new session asked bytes command reply is done
-served_ok claims old new session asked bytes command (Err e) is done = tt
 
 -- an answer, and one command more of its session, is a step
 pub answered_step : (claims : Bool) (old mid new : UnitState) (session serial : ℕ) (by_group : Group)
@@ -86,18 +67,6 @@ answered_step claims old mid new session serial by_group asked bytes reply next 
       blocks = λ h. same ∙ k.blocks h;
       answer = k.answer;
     })
-
--- a command that no rule refuses may find no memory, and may reach the device
-pub takes_memory : {T E : Type 0} (c : ControlValue) (session : ℕ) (asked : Result ScsiCommand CdbFault)
-    (bytes : List ℕ) (command : ScsiCommand) (result : Result T E) → IsAdmitted c (request session asked bytes) command
-    → OnErr result (MayTake (Ok command))
-    → OnErr result (TakesMemory c (request session asked bytes))
-takes_memory c session asked bytes command (Ok x) is takes = tt
-takes_memory c session asked bytes command (Err e) is takes = record { unrefused = is.unrefused; takes = rw is.asks takes }
-
-pub may_reach : (c : ControlValue) (r : Request) (command : ScsiCommand) (P : Type 0) → IsAdmitted c r command
-    → OnRefusal (refusal c r) P
-may_reach c r command P is = rw is.unrefused tt
 
 -- ---- the parts of a unit, and its value
 

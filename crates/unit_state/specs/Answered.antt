@@ -23,8 +23,8 @@ use Rattle.unit_state.specs.declared.devices.UnitDevices.{UnitDevices}
 abbrev pub unit_over : {B R O : Type 0} → UnitDevices B R O → ControlValue → UnitValue B R O
 unit_over d c = record { device = d.device; opener = d.opener; file = d.file; control = c }
 
--- There is no reply, since there was no memory for its data: nothing has changed, and the command is one that no rule
--- refuses and whose reply has data. It is told as BUSY or TASK SET FULL (SAM-5, 5.3.1) by those above.
+-- There is no reply, since there was no memory for its data: nothing has changed, and the command is one that no rule refuses
+-- and whose reply has data. Those above make the status BUSY of it (SAM-5, 5.3.1).
 pub record LacksMemory {B R O : Type 0} (refused : Option Refusal) (r : Request) (old new : UnitValue B R O) : Type 0 where
   pub unchanged : new ≡ old
   pub unrefused : refused ≡ None
