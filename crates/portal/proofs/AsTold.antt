@@ -31,24 +31,31 @@ pub legal_back : (claims : Bool) (s : UnitState) (h more : List Entry) → IsLeg
 legal_back claims s [] more is = is
 legal_back claims s (x ∷ h) more is = legal_back claims (after s x) h more is.1
 
-legal_both : (claims : Bool) (s : UnitState) (h more : List Entry) → IsLegal claims s h → IsLegal claims (state_after s h) more
+pub legal_both : (claims : Bool) (s : UnitState) (h more : List Entry) → IsLegal claims s h → IsLegal claims (state_after s h) more
     → IsLegal claims s (h ++ more)
 legal_both claims s [] more is next = next
 legal_both claims s (x ∷ h) more is next = (is.0, legal_both claims (after s x) h more is.1 next)
 
-alike_itself : (session : ℕ) (h : List Entry) → AreAlike session h h
-alike_itself session [] = tt
-alike_itself session (e ∷ h) = (inl refl, alike_itself session h)
+pub alike_itself : (sessions : ℕ → Type 0) (s : UnitState) (h : List Entry) → AreAlike sessions s h h
+alike_itself sessions s [] = tt
+alike_itself sessions s (e ∷ h) = (inl refl, refl, alike_itself sessions (after s e) h)
 
-alike_both : (session : ℕ) (h k more : List Entry) → AreAlike session h k → AreAlike session (h ++ more) (k ++ more)
-alike_both session [] [] more is = alike_itself session more
-alike_both session [] (f ∷ k) more is = absurd is
-alike_both session (e ∷ h) [] more is = absurd is
-alike_both session (e ∷ h) (f ∷ k) more is = (is.0, alike_both session h k more is.1)
+-- both lead to one state
+pub alike_leads : (sessions : ℕ → Type 0) (s : UnitState) (h k : List Entry) → AreAlike sessions s h k → state_after s k ≡ state_after s h
+alike_leads sessions s [] [] is = refl
+alike_leads sessions s [] (f ∷ k) is = absurd is
+alike_leads sessions s (e ∷ h) [] is = absurd is
+alike_leads sessions s (e ∷ h) (f ∷ k) is =
+    ap (λ (x : UnitState). state_after x k) is.1 ∙ alike_leads sessions (after s e) h k is.2
 
-alike_behind : (session : ℕ) (front h k : List Entry) → AreAlike session h k → AreAlike session (front ++ h) (front ++ k)
-alike_behind session [] h k is = is
-alike_behind session (e ∷ front) h k is = (inl refl, alike_behind session front h k is)
+-- and stay alike before and behind what is the same
+pub alike_both : (sessions : ℕ → Type 0) (s : UnitState) (h k more some : List Entry) → AreAlike sessions s h k
+    → AreAlike sessions (state_after s h) more some → AreAlike sessions s (h ++ more) (k ++ some)
+alike_both sessions s [] [] more some is next = next
+alike_both sessions s [] (f ∷ k) more some is next = absurd is
+alike_both sessions s (e ∷ h) [] more some is next = absurd is
+alike_both sessions s (e ∷ h) (f ∷ k) more some is next =
+    (is.0, is.1, alike_both sessions (after s e) h k more some is.2 next)
 
 -- ---- a reply over any device
 
@@ -79,7 +86,7 @@ module _ (claims : Claims) (late : Late) (s : UnitState) (session : ℕ) where
   abbrev Said : List Entry → List Done → List Entry → List Entry → Type 0
   Said front done behind rest =
       (told : List Entry) × AreEntries any_device never s session front done told × IsLegal false (state_after s front) (told ++ rest)
-      × AreAlike session behind told
+      × AreAlike (λ n. n ≡ session) (state_after s front) behind told
 
   -- an entry in whose place this one stands
   record Stands (h k : List Entry) (e : Entry) (d : Done) : Type 0 where
@@ -150,20 +157,21 @@ module _ (claims : Claims) (late : Late) (s : UnitState) (session : ℕ) where
     where
       -- with this entry, its own or not
       with_it : (f : Entry) (ds all : List Done) → IsPossible false (state_after s k) f
-          → ((f ≡ e) ⊎ ((is_own session e ≡ true) × (is_own session f ≡ true)))
+          → ((f ≡ e) ⊎ ((n : ℕ) × (n ≡ session) × (is_own n e ≡ true) × (is_own n f ≡ true)))
+          → after (state_after s k) f ≡ after (state_after s k) e
           → ((more : List Entry) → AreEntries any_device never s session (k ++ f ∷ []) ds more
           → AreEntries any_device never s session k all (f ∷ more))
           → Said (k ++ f ∷ []) ds behind rest → Said k all (e ∷ behind) rest
-      with_it f ds all possible alike first next = (
+      with_it f ds all possible alike led first next = (
         f ∷ next.0,
         first next.0 next.1,
         (possible, subst (λ (x : UnitState). IsLegal false x (next.0 ++ rest)) (behind_one s k f) next.2),
-        (alike, next.3),
+        (alike, led, subst (λ (x : UnitState). AreAlike (λ n. n ≡ session) x behind next.0) (behind_one s k f ∙ led) next.3),
       )
 
       other : is_own session e ≡ false → (ds : List Done) → Said (k ++ e ∷ []) ds behind rest → Said k ds (e ∷ behind) rest
       other own ds next =
-          with_it e ds ds (possible_behind h k e same legal.0) (inl refl)
+          with_it e ds ds (possible_behind h k e same legal.0) (inl refl) refl
           (λ (more : List Entry) (is : AreEntries any_device never s session (k ++ e ∷ []) ds more).
           subst (λ (b : Bool). MatchBool b
           (IsNextDone any_device never s k e ds (λ left. AreEntries any_device never s session (k ++ e ∷ []) left more))
@@ -171,9 +179,10 @@ module _ (claims : Claims) (late : Late) (s : UnitState) (session : ℕ) where
 
       its_own : is_own session e ≡ true → (d : Done) (ds : List Done) (f : Entry) → is_own session f ≡ true
           → IsEntry any_device never s k f d → IsPossible false (state_after s k) f
+          → after (state_after s k) f ≡ after (state_after s k) e
           → Said (k ++ f ∷ []) ds behind rest → Said k (d ∷ ds) (e ∷ behind) rest
-      its_own own d ds f own_f entry possible next =
-          with_it f ds (d ∷ ds) possible (inr (own, own_f))
+      its_own own d ds f own_f entry possible led next =
+          with_it f ds (d ∷ ds) possible (inr (session, refl, own, own_f)) led
           (λ (more : List Entry) (is : AreEntries any_device never s session (k ++ f ∷ []) ds more).
           subst (λ (b : Bool). MatchBool b
           (IsNextDone any_device never s k f (d ∷ ds) (λ left. AreEntries any_device never s session (k ++ f ∷ []) left more))
@@ -189,7 +198,9 @@ module _ (claims : Claims) (late : Late) (s : UnitState) (session : ℕ) where
       by true own [] first next = absurd first
       by true own (d ∷ ds) first next =
           let it = stands h k e d same own legal.0 first.0 in
-          its_own own d ds it.it it.own it.entry it.possible (next it.it ds it.leads first.1)
+          its_own own d ds it.it it.own it.entry it.possible
+          (sym (behind_one s k it.it) ∙ it.leads ∙ behind_one s h e ∙ ap (λ (x : UnitState). after x e) (sym same))
+          (next it.it ds it.leads first.1)
       by false own ds first next =
           other own ds (next e ds (leads_on h k e e same refl) first)
 
@@ -199,7 +210,8 @@ module _ (claims : Claims) (late : Late) (s : UnitState) (session : ℕ) where
       → AreEntries claims late s session (before ++ Attach nexus ∷ []) done behind
       → (told : List Entry) × IsHistory false s (((before ++ Attach nexus ∷ []) ++ told) ++ rest)
       × AreEntries any_device never s session (before ++ Attach nexus ∷ []) done told
-      × AreAlike session (((before ++ Attach nexus ∷ []) ++ behind) ++ rest) (((before ++ Attach nexus ∷ []) ++ told) ++ rest)
+      × AreAlike (λ n. n ≡ session) s (((before ++ Attach nexus ∷ []) ++ behind) ++ rest)
+      (((before ++ Attach nexus ∷ []) ++ told) ++ rest)
   as_told nexus done before behind rest is are =
       let front : List Entry = before ++ Attach nexus ∷ [] in
       let whole : IsLegal claims.contents s (front ++ (behind ++ rest)) =
@@ -213,13 +225,16 @@ module _ (claims : Claims) (late : Late) (s : UnitState) (session : ℕ) where
               (all_weaker claims.contents s front (legal_front claims.contents s front (behind ++ rest) whole)) t.2);
         },
         t.1,
-        alike_both session (front ++ behind) (front ++ t.0) rest (alike_behind session front behind t.0 t.3),
+        alike_both (λ n. n ≡ session) s (front ++ behind) (front ++ t.0) rest rest
+        (alike_both (λ n. n ≡ session) s front front behind t.0 (alike_itself (λ n. n ≡ session) s front) t.3)
+        (alike_itself (λ n. n ≡ session) (state_after s (front ++ behind)) rest),
       )
 
--- and all that is said of it
+-- all that is said of it, over any device and with no late flush, and with the same number
 pub has_done_as_told : (claims : Claims) (late : Late) (s : UnitState) (nexus : Nexus) (done : List Done) (history : List Entry)
     → (is : HasDone claims late s nexus done history)
-    → (told : List Entry) × HasDone any_device never s nexus done told × AreAlike (length is.before) history told
+    → (told : List Entry) × (again : HasDone any_device never s nexus done told) × (length again.before ≡ length is.before)
+    × AreAlike (λ n. n ≡ length is.before) s history told
 has_done_as_told claims late s nexus done history is =
     let t = as_told claims late s (length is.before) nexus done is.before is.behind is.rest
     (subst (λ (h : List Entry). IsHistory claims.contents s h) is.is is.legal) is.entries in (
@@ -234,5 +249,7 @@ has_done_as_told claims late s nexus done history is =
         ends = is.ends;
         left = tt;
       },
-      subst (λ (h : List Entry). AreAlike (length is.before) h (((is.before ++ Attach nexus ∷ []) ++ t.0) ++ is.rest)) (sym is.is) t.3,
+      refl,
+      subst (λ (h : List Entry). AreAlike (λ n. n ≡ length is.before) s h (((is.before ++ Attach nexus ∷ []) ++ t.0) ++ is.rest))
+      (sym is.is) t.3,
     )

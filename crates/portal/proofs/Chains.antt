@@ -29,8 +29,8 @@ use Rattle.portal.specs.declared.units.Unserved.TheVariants.{ByUnit, ByDesk}
 use Rattle.portal.proofs.Settling.{late_entry}
 use Rattle.portal.specs.Entries.{Done, replied, was_reset, done_by, reset_by, AreEntries, IsEntry, IsNextDone}
 
-same : (n : ℕ) → nat_eq n n ≡ true
-same n = ⊎_elim (λ (t : (nat_eq n n ≡ true) × (n ≡ n)). t.0)
+pub itself : (n : ℕ) → nat_eq n n ≡ true
+itself n = ⊎_elim (λ (t : (nat_eq n n ≡ true) × (n ≡ n)). t.0)
     (λ (f : (nat_eq n n ≡ false) × (n ≢ n)). absurd (f.1 refl)) (eqb_tells n n)
 
 pub one_more : (session : ℕ) (e : Entry) (more : List Entry) → counted own session (e ∷ more) ≡ own session e + counted own session more
@@ -155,7 +155,7 @@ module _ (claims : Claims) (late : Late) (s : UnitState) where
 
     own_command : (session serial : ℕ) (by_group : Group) (e : Entry) → IsCommand session serial by_group asked bytes e
         → is_own session e ≡ true
-    own_command session serial by_group e is = subst (λ (x : Entry). is_own session x ≡ true) (sym is.1) (same session)
+    own_command session serial by_group e is = subst (λ (x : Entry). is_own session x ≡ true) (sym is.1) (itself session)
 
     grows_replied : (old new : Known Entry) (by_group : Group) (reply : ReplyValue)
         → HasServed claims.contents s old new by_group asked bytes reply
@@ -237,7 +237,7 @@ module _ (claims : Claims) (late : Late) (s : UnitState) where
   grows_reset old new true is =
       let a = is.0 in
       grows_added old new a.0 a.1 was_reset a.2 a.3 a.4 is.1
-      (subst (λ (x : Entry). is_own old.session x ≡ true) (sym a.5) (same old.session))
+      (subst (λ (x : Entry). is_own old.session x ≡ true) (sym a.5) (itself old.session))
       (subst (λ (x : Entry). IsEntry claims late s (old.seen ++ a.0) x was_reset) (sym a.5) tt)
   grows_reset old new false is = grows_later old new is.0
 

@@ -1,3 +1,4 @@
+pub mod AllTold
 pub mod Answering
 pub mod Apart
 pub mod AsTold

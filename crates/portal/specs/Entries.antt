@@ -126,13 +126,15 @@ pub record IsAttachOf (nexus : Nexus) (session : ℕ) (history : List Entry) : T
   pub stands : slice_get history session ≡ Some (Attach nexus)
   pub none_before : counted own session (take session history) ≡ 0
 
--- Two histories of one unit that differ in entries of this session's own alone, each of which stands where the other has one.
-abbrev pub AreAlike : ℕ → List Entry → List Entry → Type 0
-AreAlike session [] [] = Unit {0}
-AreAlike session [] (f ∷ more) = ⊥
-AreAlike session (e ∷ history) [] = ⊥
-AreAlike session (e ∷ history) (f ∷ more) =
-    ((f ≡ e) ⊎ ((is_own session e ≡ true) × (is_own session f ≡ true))) × AreAlike session history more
+-- Two histories that lead a unit in this state to the same state at each place, and differ in own entries of these sessions alone: each
+-- of them stands where the other history has an own entry of the same session.
+abbrev pub AreAlike : (ℕ → Type 0) → UnitState → List Entry → List Entry → Type 0
+AreAlike sessions s [] [] = Unit {0}
+AreAlike sessions s [] (f ∷ more) = ⊥
+AreAlike sessions s (e ∷ history) [] = ⊥
+AreAlike sessions s (e ∷ history) (f ∷ more) =
+    ((f ≡ e) ⊎ ((session : ℕ) × sessions session × (is_own session e ≡ true) × (is_own session f ≡ true)))
+    × (after s f ≡ after s e) × AreAlike sessions (after s e) history more
 
 -- it has done nothing at any unit
 abbrev pub HasDoneNothing : List Asking → Type 0

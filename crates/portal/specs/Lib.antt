@@ -3,6 +3,7 @@ pub mod Entries
 pub mod Handles
 pub mod Lanes
 pub mod Late
+pub mod Leavers
 pub mod Leaving
 pub mod Live
 pub mod Passes
