@@ -20,7 +20,7 @@ use std::thread::{self, Builder, JoinHandle, Threads};
 use std::time::{Clock, Duration};
 use unit_history::Opened;
 use unit_sequence::Array as Naming;
-use window::{Registration, Session};
+use window::{Registration, SessionView};
 
 /// Its owner may read and write.
 const OWNER_ALONE: u32 = 0o600;
@@ -75,7 +75,7 @@ impl<R: Wait + Clock + Drop, B: Blocks, F: Blocks, O: Opener<B>, N: Naming<Opene
 }
 
 // Writes a line for a session. The name of its initiator, which a host chose, stands last and between quotes.
-fn say_session<W: Write>(writer: &mut W, session: &Session) -> io::Result<()> {
+fn say_session<W: Write>(writer: &mut W, session: &SessionView) -> io::Result<()> {
     let (tsih, controller, kind) = (session.tsih, session.controller, session.kind);
     write!(
         writer,
@@ -137,7 +137,7 @@ impl<
     }
 
     // The sessions that are logged in.
-    fn sessions(&self, alloc: Global) -> Result<Vec<Session>, AllocError> {
+    fn sessions(&self, alloc: Global) -> Result<Vec<SessionView>, AllocError> {
         let now = self.rt.monotonic().unwrap_or(Duration::ZERO);
         let mut sessions = Vec::new(alloc);
         if let Some(meters) = self.server.log.meters() {
