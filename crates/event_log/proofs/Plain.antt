@@ -265,8 +265,10 @@ error n = both _ _ (number n) (both _ _ (error_plain n) refl)
 
 each : (event : Event) → all_plain (parts event) ≡ true
 each (events.Started version) = both _ _ (quoted_plain version.now) refl
+each (events.WrongWords what) = both _ _ (quoted_plain what.now) refl
 each (events.Listening controller portal) = both _ _ (number controller) (both _ _ (address portal) refl)
 each (events.CannotListen controller portal n) = both _ _ (number controller) (both _ _ (address portal) (error n))
+each (events.CannotControl n) = error n
 each events.Ready = refl
 each events.Stopping = refl
 each (events.LoggedIn who by tsih kind) =
