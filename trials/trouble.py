@@ -45,6 +45,31 @@ def wrong_words(folder):
 
 
 @case
+def words_that_the_log_names(folder):
+    disk, log = made(folder + "/disk", 16), folder + "/log"
+
+    def told(words, **more):
+        """What the log says of words that are refused."""
+        is_so(f"{words} {more}", ended(words, log=log, more=more), (2, "arrayd: wrong words"))
+        return lines(log, "wrong_words")[-1].split(" what=", 1)[1]
+
+    for words, named in ((["--pot", "1", disk], "--pot"), (["--port", "65529", disk], "65529"), (["--array", "-1", disk], "-1"),
+                         (["--port", "1", "--port", "2", disk], "--port")):
+        is_so(f"{words}", named in told(words), True)
+    for words, what in ((["--target", "", disk], "--target"), (["--host", "localhost", disk], "--host"), ([], "DISK"),
+                        ([disk] * 9, "DISK"), (["--once", disk], "DISK")):
+        is_so(f"{words}", told(words), f'"{what}"')
+    for variable, text in (("ARRAYD_DEADLINE", "0"), ("ARRAYD_HOST2", "localhost"), ("ARRAYD_HTTP", "9860"), ("ARRAYD_HTTP", "127.0.0.1:0")):
+        is_so(f"{variable}={text}", told([disk], **{variable: text}), f'"{variable}"')
+    path = folder + "/" + "x" * 120
+    is_so("a path too long", told([disk], ARRAYD_CONTROL=path), f'"{path}"')
+    is_so("an escape in a word", "\x1b" not in told(["--\x1b[2J", disk]), True)
+    is_so("a control socket's folder", ended([disk], log=log, more={"ARRAYD_CONTROL": folder + "/none/control"}),
+          (1, "arrayd: cannot make the control socket"))
+    is_so("the log", lines(log, "cannot_control")[-1].split(" event=", 1)[1], "cannot_control errno=2 error=ENOENT")
+
+
+@case
 def disk_not_there_or_no_disk(folder):
     for length in (None, 0, 511, 513):
         if length is not None:

@@ -5,6 +5,7 @@ use crate::control::{self, ControlSocket};
 use crate::served::Served;
 use block_file::{Blocks, Opener};
 use command_line::{Fault, Options};
+use event_log::Log;
 use portal::Gate;
 use std::alloc::Global;
 use std::fs::File;
@@ -45,9 +46,10 @@ pub(crate) fn control_path<'a>(administration: &Option<Administration<'a>>) -> O
     }
 }
 
-/// The sockets that are to be: none, where there is no administration.
-pub(crate) fn open<R: Files<File = File> + Net>(
+/// The sockets that are to be: none, where there is no administration. The log is told why there is none that is to be.
+pub(crate) fn open<R: Files<File = File> + Net + Clock>(
     rt: &R,
+    log: &Log,
     administration: Option<Administration<'_>>,
 ) -> Result<Sockets, Fault> {
     let Some(
@@ -65,7 +67,7 @@ pub(crate) fn open<R: Files<File = File> + Net>(
         });
     };
     let control = match control {
-        Some(path) => Some(control::listen(rt, path)?),
+        Some(path) => Some(control::listen(rt, log, path)?),
         None => None,
     };
     Ok(Sockets {

@@ -14,7 +14,7 @@ use std::sync::{Arc, Wait};
 use std::time::{Clock, Duration};
 use unit_history::Opened;
 use unit_sequence::Array as Naming;
-use window::{Collector, Controller, Registration, Session, Signs, Unit, View};
+use window::{ArrayView, Collector, Controller, Registration, SessionView, Signs, UnitView};
 
 /// What the array was asked to be, as it is shown.
 #[derive(Drop)]
@@ -92,11 +92,11 @@ fn unit_of(
     registrations: Option<Vec<Registration>>,
     disks: &[String],
     seen: &Seen,
-) -> Result<Unit, AllocError> {
+) -> Result<UnitView, AllocError> {
     let (disk, registration_file) = files_of(alloc, disks, place)?;
     let of_first = place.saturating_mul(2);
-    let first = window::route(alloc, 1, row.states.0, seen.counts.get(of_first))?;
-    let second = window::route(
+    let first = window::path(alloc, 1, row.states.0, seen.counts.get(of_first))?;
+    let second = window::path(
         alloc,
         2,
         row.states.1,
@@ -107,7 +107,7 @@ fn unit_of(
     paths.push(second)?;
     let oldest = seen.oldest.get(place).copied().unwrap_or(0);
     let signs = Signs::of(&seen.happened, place, oldest);
-    Ok(Unit {
+    Ok(UnitView {
         unit: place as u64,
         owner: row.owner,
         generation: row.generation,
@@ -153,7 +153,7 @@ fn controller_of(
 }
 
 // Sessions.
-fn sessions_of(alloc: Global, seen: &Seen) -> Result<Vec<Session>, AllocError> {
+fn sessions_of(alloc: Global, seen: &Seen) -> Result<Vec<SessionView>, AllocError> {
     let mut sessions = Vec::with_capacity(alloc, seen.sessions.len())?;
     for session in &seen.sessions {
         sessions.push(window::session(alloc, session)?)?;
@@ -168,7 +168,7 @@ fn units_of<R: Wait, B: Blocks, F: Blocks, O: Opener<B>, N: Naming<Opened>>(
     units: &Units<B, F, O, N>,
     disks: &[String],
     seen: &Seen,
-) -> Result<Vec<Unit>, AllocError> {
+) -> Result<Vec<UnitView>, AllocError> {
     let mut found = Vec::new(alloc);
     for place in 0..units.count() {
         let row = units.read(rt, place);
@@ -227,7 +227,7 @@ impl<
     N: Naming<Opened>,
     G: Drop,
 > Collector for ArrayCollector<R, B, F, O, N, G> {
-    fn collect(&self, alloc: Global) -> Result<View, AllocError> {
+    fn collect(&self, alloc: Global) -> Result<ArrayView, AllocError> {
         let now = self.rt.monotonic().unwrap_or(self.began);
         let seen = self.seen(alloc, now)?;
         let server = &self.server;
@@ -242,7 +242,7 @@ impl<
         controllers.push(controller_of(alloc, Group::One, &server.first, &seen)?)?;
         controllers.push(controller_of(alloc, Group::Two, &server.second, &seen)?)?;
         let problems = window::problems(alloc, &units, server.log.is_failing())?;
-        Ok(View {
+        Ok(ArrayView {
             version: self.asked.version,
             target: self.asked.target.clone()?,
             array: self.asked.array,

@@ -6,6 +6,7 @@ use crate::registrations::registrations;
 use crate::served::Served;
 use block_file::{Blocks, Opener};
 use command_line::Fault;
+use event_log::{Event, Log};
 use portal::Gate;
 use scsi_types::Group;
 use std::alloc::{AllocError, Global};
@@ -20,7 +21,7 @@ use std::thread::{self, Builder, JoinHandle, Threads};
 use std::time::{Clock, Duration};
 use unit_history::Opened;
 use unit_sequence::Array as Naming;
-use window::{Registration, Session};
+use window::{Registration, SessionView};
 
 /// Its owner may read and write.
 const OWNER_ALONE: u32 = 0o600;
@@ -75,7 +76,7 @@ impl<R: Wait + Clock + Drop, B: Blocks, F: Blocks, O: Opener<B>, N: Naming<Opene
 }
 
 // Writes a line for a session. The name of its initiator, which a host chose, stands last and between quotes.
-fn say_session<W: Write>(writer: &mut W, session: &Session) -> io::Result<()> {
+fn say_session<W: Write>(writer: &mut W, session: &SessionView) -> io::Result<()> {
     let (tsih, controller, kind) = (session.tsih, session.controller, session.kind);
     write!(
         writer,
@@ -137,7 +138,7 @@ impl<
     }
 
     // The sessions that are logged in.
-    fn sessions(&self, alloc: Global) -> Result<Vec<Session>, AllocError> {
+    fn sessions(&self, alloc: Global) -> Result<Vec<SessionView>, AllocError> {
         let now = self.rt.monotonic().unwrap_or(Duration::ZERO);
         let mut sessions = Vec::new(alloc);
         if let Some(meters) = self.server.log.meters() {
@@ -256,29 +257,42 @@ fn turn_strangers_away(listener: &UnixListener) -> io::Result<()> {
     listener.set_nonblocking(false)
 }
 
-// What made no control socket: a path that none can have is a wrong word.
-fn fault_of(error: &io::Error) -> Fault {
-    match error.kind() {
-        ErrorKind::InvalidInput => Fault::WrongWords,
-        _ => Fault::CannotControl,
+// What made no control socket, as the log is told it: a path that none can have is a wrong word.
+fn fault_of<R: Clock>(rt: &R, log: &Log, path: &str, error: &io::Error) -> Fault {
+    if error.kind() == ErrorKind::InvalidInput {
+        log.tell(rt, &Event::WrongWords(path.as_bytes()));
+        return Fault::WrongWords;
+    }
+    let error = u32::try_from(error.raw_os_error().unwrap_or(0)).unwrap_or(0);
+    log.tell(rt, &Event::CannotControl(error));
+    Fault::CannotControl
+}
+
+// The control socket at this path, where nothing is yet. Only its owner may connect.
+fn made<R: Files<File = File> + Net>(rt: &R, path: &str) -> io::Result<UnixListener> {
+    let listener = UnixListener::bind(rt, path)?;
+    let is_its_own = fs::set_permissions(rt, path, Permissions::from_mode(OWNER_ALONE)).and_then(
+        |()| turn_strangers_away(&listener),
+    );
+    match is_its_own {
+        Ok(()) => Ok(listener),
+        Err(error) => {
+            remove(rt, Some(path));
+            Err(error)
+        }
     }
 }
 
-/// The control socket at this path, where nothing is yet. Only its owner may connect.
-pub(crate) fn listen<R: Files<File = File> + Net>(
+/// The control socket at this path; or why there is none, of which the log is told.
+pub(crate) fn listen<R: Files<File = File> + Net + Clock>(
     rt: &R,
+    log: &Log,
     path: &str,
 ) -> Result<UnixListener, Fault> {
-    let listener = match UnixListener::bind(rt, path) {
-        Ok(listener) => listener,
-        Err(error) => return Err(fault_of(&error)),
-    };
-    let is_its_own = fs::set_permissions(rt, path, Permissions::from_mode(OWNER_ALONE)).is_ok();
-    if is_its_own && turn_strangers_away(&listener).is_ok() {
-        return Ok(listener);
+    match made(rt, path) {
+        Ok(listener) => Ok(listener),
+        Err(error) => Err(fault_of(rt, log, path, &error)),
     }
-    remove(rt, Some(path));
-    Err(Fault::CannotControl)
 }
 
 /// Removes the control socket at this path, where there is one.

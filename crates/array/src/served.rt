@@ -313,7 +313,7 @@ pub fn serve<
     } = array;
     let gate = Prepared::<P, N>::new(preparers);
     let path = control_path(&administration);
-    let ended = match open(rt, administration) {
+    let ended = match open(rt, log, administration) {
         Ok(sockets) => {
             let ended = serve_to_the_end::<N, B, F, O, Prepared<P, N>, R, I, C>(
                 rt, alloc, options, units, gate, log, sockets, reader, writer,

@@ -24,22 +24,23 @@ pub struct Asked {
     control: Option<String>,
 }
 
-// The address that a text names, whose port is not 0.
-fn address_in(text: &str) -> Result<SocketAddrV4, Fault> {
+// Where the window is to be: an address whose port is not 0.
+fn window_at<R: Env + AllocGlobal>(rt: &R) -> Result<Option<SocketAddrV4>, Fault> {
+    let Some(text) = value_of(rt, HTTP)? else {
+        return Ok(None);
+    };
     match text.parse::<SocketAddrV4>() {
-        Ok(at) if at.port() != 0 => Ok(at),
+        Ok(at) if at.port() != 0 => Ok(Some(at)),
         _ => Err(Fault::WrongWords),
     }
 }
 
-/// What the environment asks for.
-pub fn read<R: Env + AllocGlobal>(rt: &R) -> Result<Asked, Fault> {
-    let http = match value_of(rt, HTTP)? {
-        Some(text) => Some(address_in(text.as_str())?),
-        None => None,
-    };
-    let control = value_of(rt, CONTROL)?;
-    Ok(Asked { http, control })
+/// What the environment asks for; or why it is refused, and the variable.
+pub fn read<R: Env + AllocGlobal>(rt: &R) -> Result<Asked, (Fault, &'static str)> {
+    Ok(Asked {
+        http: window_at(rt).map_err(|fault| (fault, HTTP))?,
+        control: value_of(rt, CONTROL).map_err(|fault| (fault, CONTROL))?,
+    })
 }
 
 // The socket of a window at this address. Of one that cannot listen the log is told as of a portal, of no controller.

@@ -23,6 +23,8 @@ use std::fs::File;
 use std::marker::Brand;
 use std::process::ExitCode;
 use std::rt::Files;
+use std::sync::Wait;
+use std::thread::Threads;
 use std::time::Clock;
 use std::{env, io};
 
@@ -46,15 +48,15 @@ fn asked_log<R: Env + AllocGlobal + Files<File = File> + Clone + Drop>(
     }
 }
 
-// The log, its file, and what the array is to be administered by.
-fn asked<R: Env + AllocGlobal + Files<File = File> + Clone + Drop>(
+// The log, which counts where the array is to be administered by anything; and its file.
+fn counting_log<R: Env + AllocGlobal + Files<File = File> + Clone + Drop>(
     rt: &R,
     alloc: Global,
+    asked: &Asked,
     units: usize,
-) -> Result<(Log, Option<LogFile<R>>, Asked), Fault> {
-    let asked = administration::read(rt)?;
+) -> Result<(Log, Option<LogFile<R>>), Fault> {
     let (log, file) = asked_log(rt, alloc)?;
-    Ok((asked.counted(alloc, log, units)?, file, asked))
+    Ok((asked.counted(alloc, log, units)?, file))
 }
 
 // Says why the program ends, and with which status.
@@ -63,6 +65,37 @@ fn complain(rt: &impl Eprint, fault: Fault) -> ExitCode
 {
     let _ = eprintln!(rt; "arrayd: {fault}");
     fault.status()
+}
+
+// The same, behind a line in the log where what was asked for is none that there is.
+fn refuse<
+    R: Threads
+        + Wait
+        + Clock
+        + Env
+        + AllocGlobal
+        + Files<File = File>
+        + Eprint
+        + Clone
+        + Drop
+        + Send
+        + 'static,
+>(rt: &R, alloc: Global, fault: Fault, what: &str) -> ExitCode
+    ensures { exit_status result ≡ status_of fault }
+{
+    if fault == Fault::WrongWords
+        && let Ok((log, Some(file))) = asked_log(rt, alloc)
+        && start::<R, LogFile<R>>(rt, alloc, &log, file).is_ok()
+    {
+        log.tell(rt, &Event::WrongWords(what.as_bytes()));
+        event_log::close(rt, &log);
+    }
+    complain(rt, fault)
+}
+
+// What of the command line asks for nothing.
+fn wrong_part(alloc: Global, words: &[String]) -> String {
+    command_line::wrong_part(alloc, words).unwrap_or(String::new(alloc))
 }
 
 // The same, where the log has begun.
@@ -79,14 +112,17 @@ fn main(rt: HostRuntime) -> ExitCode {
     let alloc = rt.alloc();
     let words = match all_words(&rt) {
         Ok(words) => words,
-        Err(fault) => return complain(&rt, fault),
+        Err(fault) => return refuse(&rt, alloc, fault, "a word that is not UTF-8"),
     };
     if told::tells(&rt, words.as_slice()) {
         return ExitCode::SUCCESS;
     }
     let mut options = match command_line::read(alloc, words.as_slice()) {
         Ok(options) => options,
-        Err(fault) => return complain(&rt, Fault::from(fault)),
+        Err(fault) => {
+            let part = wrong_part(alloc, words.as_slice());
+            return refuse(&rt, alloc, Fault::from(fault), part.as_str());
+        }
     };
     if options.is_once {
         return match once::serve_once(&rt, alloc) {
@@ -94,16 +130,14 @@ fn main(rt: HostRuntime) -> ExitCode {
             Err(fault) => complain(&rt, fault),
         };
     }
-    let patience = match settings::deadline(&rt) {
-        Ok(patience) => patience,
-        Err(fault) => return complain(&rt, fault),
+    let settings = match settings::read(&rt) {
+        Ok(settings) => settings,
+        Err((fault, variable)) => return refuse(&rt, alloc, fault, variable),
     };
-    options.second_host = match settings::second_host(&rt) {
-        Ok(address) => address,
-        Err(fault) => return complain(&rt, fault),
-    };
-    let (log, file, asked) = match asked(&rt, alloc, options.paths.len()) {
-        Ok(asked) => asked,
+    options.second_host = settings.second_host;
+    let asked = &settings.asked;
+    let (log, file) = match counting_log(&rt, alloc, asked, options.paths.len()) {
+        Ok(found) => found,
         Err(fault) => return complain(&rt, fault),
     };
     // What threads may do is known here alone.
@@ -120,7 +154,7 @@ fn main(rt: HostRuntime) -> ExitCode {
         Ok(administration) => administration,
         Err(fault) => return give_up(&rt, &log, fault),
     };
-    if let Some(patience) = patience {
+    if let Some(patience) = settings.patience {
         let parts = match open_files(&rt, alloc, &log, &options) {
             Ok(parts) => parts,
             Err(fault) => return give_up(&rt, &log, fault),

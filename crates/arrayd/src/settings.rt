@@ -1,5 +1,6 @@
 //! What the environment asks for, beside the log.
 
+use crate::administration::{self, Asked};
 use command_line::Fault;
 use std::env::{self, Env, VarError};
 use std::net::Ipv4Addr;
@@ -25,8 +26,8 @@ pub(crate) fn value_of<R: Env + AllocGlobal>(rt: &R, name: &str) -> Result<Optio
     }
 }
 
-/// How long a call of a unit's file may take, where the environment says so: from one second to an hour.
-pub fn deadline<R: Env + AllocGlobal>(rt: &R) -> Result<Option<Duration>, Fault> {
+// How long a call of a unit's file may take, where the environment says so: from one second to an hour.
+fn deadline<R: Env + AllocGlobal>(rt: &R) -> Result<Option<Duration>, Fault> {
     let Some(text) = value_of(rt, DEADLINE)? else {
         return Ok(None);
     };
@@ -38,8 +39,8 @@ pub fn deadline<R: Env + AllocGlobal>(rt: &R) -> Result<Option<Duration>, Fault>
     }
 }
 
-/// The address at which controller 2 listens, where the environment names one.
-pub fn second_host<R: Env + AllocGlobal>(rt: &R) -> Result<Option<Ipv4Addr>, Fault> {
+// The address at which controller 2 listens, where the environment names one.
+fn second_host<R: Env + AllocGlobal>(rt: &R) -> Result<Option<Ipv4Addr>, Fault> {
     let Some(text) = value_of(rt, SECOND_HOST)? else {
         return Ok(None);
     };
@@ -47,4 +48,22 @@ pub fn second_host<R: Env + AllocGlobal>(rt: &R) -> Result<Option<Ipv4Addr>, Fau
         Ok(address) => Ok(Some(address)),
         Err(_) => Err(Fault::WrongWords),
     }
+}
+
+/// What the environment asks for: how long a call of a unit's file may take, the address of controller 2, and what the array is to
+/// be administered by.
+#[derive(Drop)]
+pub struct Settings {
+    pub patience: Option<Duration>,
+    pub second_host: Option<Ipv4Addr>,
+    pub asked: Asked,
+}
+
+/// What the environment asks for; or why it is refused, and the variable.
+pub fn read<R: Env + AllocGlobal>(rt: &R) -> Result<Settings, (Fault, &'static str)> {
+    Ok(Settings {
+        patience: deadline(rt).map_err(|fault| (fault, DEADLINE))?,
+        second_host: second_host(rt).map_err(|fault| (fault, SECOND_HOST))?,
+        asked: administration::read(rt)?,
+    })
 }

@@ -5,4 +5,4 @@ mod fault;
 mod words;
 
 pub use fault::Fault;
-pub use words::{MAX_NAME, MAX_UNITS, Options, WordsFault, read};
+pub use words::{MAX_NAME, MAX_UNITS, Options, WordsFault, read, wrong_part};

@@ -10,7 +10,7 @@ ghost use Rattle.clap.specs.declared.builder.value_parser.ValueParser.TheVariant
 
 use clap::builder::ValueParser;
 use clap::error::ErrorKind;
-use clap::{Arg, ArgAction, ArgMatches, Command};
+use clap::{Arg, ArgAction, ArgMatches, Command, Error};
 use std::alloc::{AllocError, Global};
 use std::net::Ipv4Addr;
 
@@ -266,6 +266,36 @@ fn options_in<'a>(alloc: Global, matches: &ArgMatches<'a>) -> Result<Options<'a>
         portals,
         paths,
     })
+}
+
+// Which option, or that it is the disks.
+fn part_of(matches: &ArgMatches<'_>) -> &'static str {
+    match text_given(matches, "target") {
+        Some(target) if is_name(target) => {}
+        _ => return "--target",
+    }
+    match text_given(matches, "host") {
+        Some(host) if host.parse::<Ipv4Addr>().is_ok() => {}
+        _ => return "--host",
+    }
+    "DISK"
+}
+
+// The first line of what `clap` says.
+fn first_line(alloc: Global, e: &Error) -> Result<String, AllocError> {
+    let mut text = String::new(alloc);
+    write!(text, "{e}")?;
+    String::from_str(alloc, text.as_str().lines().next().unwrap_or(""))
+}
+
+/// What of words that are refused as wrong asks for nothing: as `clap` says it, or the option whose value there cannot be, or that
+/// there are no disks, or too many.
+pub fn wrong_part(alloc: Global, words: &[String]) -> Result<String, AllocError> {
+    let command = command(alloc)?;
+    match command.try_get_matches_from(words) {
+        Ok(matches) => String::from_str(alloc, part_of(&matches)),
+        Err(e) => first_line(alloc, &e),
+    }
 }
 
 /// Reads the words, the program's name first. They are refused as wrong only where they ask for nothing.

@@ -44,7 +44,7 @@ use Rattle.event_log.specs.declared.words.Resource.TheVariants as resources
 use Rattle.event_log.specs.declared.words.Unusable.{Unusable}
 use Rattle.event_log.specs.declared.words.Unusable.TheVariants as unusables
 
-both : (a b : Bool) → a ≡ true → b ≡ true → (a && b) ≡ true
+pub both : (a b : Bool) → a ≡ true → b ≡ true → (a && b) ≡ true
 both true b pa pb = pb
 both false b pa pb = absurd (cc)
 
@@ -52,16 +52,16 @@ split : (a b : Bool) → (a && b) ≡ true → (a ≡ true) × (b ≡ true)
 split true b p = (refl, p)
 split false b p = absurd (cc)
 
-choose : (t : Bool) (x y : List ℕ) → are_plain x ≡ true → are_plain y ≡ true → are_plain (if t then x else y) ≡ true
+pub choose : (t : Bool) (x y : List ℕ) → are_plain x ≡ true → are_plain y ≡ true → are_plain (if t then x else y) ≡ true
 choose true x y px py = px
 choose false x y px py = py
 
-join : (a b : List ℕ) → are_plain a ≡ true → are_plain b ≡ true → are_plain (a ++ b) ≡ true
+pub join : (a b : List ℕ) → are_plain a ≡ true → are_plain b ≡ true → are_plain (a ++ b) ≡ true
 join a b pa pb = list_all-append is_plain a b ∙ both (are_plain a) (are_plain b) pa pb
 
 -- ---- numbers
 
-glyph : (d : ℕ) → d < 16 → is_plain (digit_glyph false d) ≡ true
+pub glyph : (d : ℕ) → d < 16 → is_plain (digit_glyph false d) ≡ true
 glyph d lt = grind (arith, nat_tests)
 
 ten : (k n : ℕ) (acc : List ℕ) → are_plain acc ≡ true → are_plain (digits_onto k 10 false n acc) ≡ true
@@ -82,11 +82,11 @@ sixteen (suc k) n acc p =
     (digits_onto k 16 false (n / 16) (digit_glyph false (n % 16) ∷ acc)) q
     (sixteen k (n / 16) (digit_glyph false (n % 16) ∷ acc) q)
 
-number : (n : ℕ) → are_plain (decimal n) ≡ true
+pub number : (n : ℕ) → are_plain (decimal n) ≡ true
 unfolding digits
 number n = ten 64 n [] refl
 
-hexed : (n : ℕ) → are_plain (hex n) ≡ true
+pub hexed : (n : ℕ) → are_plain (hex n) ≡ true
 unfolding digits
 hexed n = sixteen 64 n [] refl
 
@@ -108,7 +108,7 @@ address a =
 
 -- ---- names
 
-kept : (b : ℕ) (t : Bool) (x : List ℕ) → is_plain b ≡ t → are_plain x ≡ true → are_plain (if t then b ∷ [] else x) ≡ true
+pub kept : (b : ℕ) (t : Bool) (x : List ℕ) → is_plain b ≡ t → are_plain x ≡ true → are_plain (if t then b ∷ [] else x) ≡ true
 kept b true x e p = both (is_plain b) true e refl
 kept b false x e p = p
 
@@ -121,15 +121,15 @@ visible b = if is_plain b then b ∷ [] else hidden_text b
 abbrev behind_a_quote : ℕ → List ℕ
 behind_a_quote b = if nat_eq b 92 then codes "\\\\" else visible b
 
-hidden : (b : ℕ) → are_plain (hidden_text b) ≡ true
-hidden b =
+pub two_digits : (b : ℕ) → are_plain (hex_digit (b / 16 % 16) ∷ hex_digit (b % 16) ∷ []) ≡ true
+two_digits b =
     both (is_plain (hex_digit (b / 16 % 16))) (are_plain (hex_digit (b % 16) ∷ [])) (glyph (b / 16 % 16) (omega arith))
     (both (is_plain (hex_digit (b % 16))) true (glyph (b % 16) (omega arith)) refl)
 
 one : (b : ℕ) → are_plain (escaped b) ≡ true
 one b =
     choose (nat_eq b 34) (codes "\\\"") (behind_a_quote b) refl (choose (nat_eq b 92) (codes "\\\\") (visible b) refl
-    (kept b (is_plain b) (hidden_text b) refl (hidden b)))
+    (kept b (is_plain b) (hidden_text b) refl (two_digits b)))
 
 many : (bytes : List ℕ) → are_plain (flat_map escaped bytes) ≡ true
 many [] = refl
@@ -265,8 +265,10 @@ error n = both _ _ (number n) (both _ _ (error_plain n) refl)
 
 each : (event : Event) → all_plain (parts event) ≡ true
 each (events.Started version) = both _ _ (quoted_plain version.now) refl
+each (events.WrongWords what) = both _ _ (quoted_plain what.now) refl
 each (events.Listening controller portal) = both _ _ (number controller) (both _ _ (address portal) refl)
 each (events.CannotListen controller portal n) = both _ _ (number controller) (both _ _ (address portal) (error n))
+each (events.CannotControl n) = error n
 each events.Ready = refl
 each events.Stopping = refl
 each (events.LoggedIn who by tsih kind) =

@@ -140,9 +140,11 @@ stay_in unit group why rest =
 
 abbrev pub parts : Event → List (List ℕ)
 parts (events.Started version) = codes "event=started version=" ∷ quoted version.now ∷ []
+parts (events.WrongWords what) = codes "event=wrong_words what=" ∷ quoted what.now ∷ []
 parts (events.Listening controller portal) = codes "event=listening" ∷ portal_in controller portal []
 parts (events.CannotListen controller portal error) =
     codes "event=cannot_listen" ∷ portal_in controller portal (error_in error)
+parts (events.CannotControl error) = codes "event=cannot_control" ∷ error_in error
 parts events.Ready = codes "event=ready" ∷ []
 parts events.Stopping = codes "event=stopping" ∷ []
 parts (events.LoggedIn who path tsih kind) =

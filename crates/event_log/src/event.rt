@@ -49,10 +49,14 @@ pub struct Reservation {
 pub enum Event<'a> {
     /// The program began: its version.
     Started(&'a [u8]),
+    /// The command line, or a variable of the environment, asks for nothing that there is: what of it.
+    WrongWords(&'a [u8]),
     /// A portal of a controller takes connections.
     Listening(u16, SocketAddrV4),
     /// A portal could not: the system's error.
     CannotListen(u16, SocketAddrV4, u32),
+    /// The control socket could not be made: the system's error.
+    CannotControl(u32),
     /// All portals listen.
     Ready,
     /// No command is taken in any more.

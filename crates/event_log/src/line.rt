@@ -26,12 +26,12 @@ fn hex_digit_of(d: u8) -> char
     char::from(if d < 10 { b'0' + d } else { b'a' - 10 + d })
 }
 
-// A byte that is no printing character.
-fn hidden(line: &mut String, b: u8) -> Result<(), AllocError>
-    ensures { OnOk result (string_bytes line.new ≡ ((string_bytes line.old ++ codes "\\x") ++ hex_digit (b / 16 % 16) ∷ [])
+/// Puts a byte that is no printing character behind what a line has: this front, and two digits.
+pub fn hide(line: &mut String, front: &str, b: u8) -> Result<(), AllocError>
+    ensures { OnOk result (string_bytes line.new ≡ ((string_bytes line.old ++ front.now) ++ hex_digit (b / 16 % 16) ∷ [])
         ++ hex_digit (b % 16) ∷ []) }
 {
-    line.push_str("\\x")?;
+    line.push_str(front)?;
     line.push(hex_digit_of(b / 16 % 16))?;
     line.push(hex_digit_of(b % 16))
 }
@@ -44,7 +44,7 @@ fn byte(line: &mut String, b: u8) -> Result<(), AllocError>
         b'"' => line.push_str("\\\""),
         b'\\' => line.push_str("\\\\"),
         32..127 => line.push(char::from(b)),
-        _ => hidden(line, b),
+        _ => hide(line, "\\x", b),
     }
 }
 

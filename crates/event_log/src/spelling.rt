@@ -410,9 +410,14 @@ pub fn spell(line: &mut String, event: &Event<'_>) -> Result<(), AllocError>
 {
     match event {
         Event::Started(version) => put(line, &[Text("event=started version="), Name(version)]),
+        Event::WrongWords(what) => put(line, &[Text("event=wrong_words what="), Name(what)]),
         Event::Listening(controller, at) => portal(line, "event=listening", *controller, *at),
         Event::CannotListen(controller, at, errno) => {
             portal(line, "event=cannot_listen", *controller, *at)?;
+            error(line, *errno)
+        }
+        Event::CannotControl(errno) => {
+            line.push_str("event=cannot_control")?;
             error(line, *errno)
         }
         Event::Ready => line.push_str("event=ready"),

@@ -54,6 +54,14 @@ fn events_are_spelled(rt: HostRuntime) -> Result<(), Fail> {
     let rows = [
         (Event::Ready, "event=ready"),
         (
+            Event::WrongWords(b"--p\x1b[2J"),
+            "event=wrong_words what=\"--p\\x1b[2J\"",
+        ),
+        (
+            Event::CannotControl(13),
+            "event=cannot_control errno=13 error=EACCES",
+        ),
+        (
             Event::LoggedIn(WHO, path(), 3, SessionType::Normal),
             "event=login initiator=\"iqn.a\\x0a\\\"b\\\\\\x1b[2J\\xff\" isid=0x400001370000 \
              from=10.0.5.7:41022 portal=10.0.5.1:3264 tag=2 tsih=3 type=normal",

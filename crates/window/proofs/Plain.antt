@@ -1,65 +1,16 @@
 -- A line has printing characters alone, whatever a host or a path is called.
-use Rattle.std.proofs.Common.{◌≡◌, ℕ, zero, suc, ◌<◌, ◌/◌, ◌%◌, List, [], ◌∷◌, ◌++◌, Bool, true, false, ◌&&◌, ◌∙◌, refl, arith}
-use Rattle.std.specs.Bool.{◌==◌}
+use Rattle.std.proofs.Common.{◌≡◌, ℕ, ◌/◌, ◌%◌, List, [], ◌∷◌, ◌++◌, true, refl}
 use Rattle.std.specs.Prelude.{nat_eq, if◌then◌else◌, codes}
-use Rattle.std.specs.List.{list_all, flat_map}
-use Rattle.std.specs.Fmt.{decimal, digits, digits_onto, digit_glyph}
-use Rattle.std.proofs.lemmas.Bool.Decides.{nat_tests}
-use Rattle.std.proofs.lemmas.List.Folds.{list_all-append}
+use Rattle.std.specs.Fmt.{decimal}
 use Rattle.event_log.specs.Text.{is_plain, are_plain, hex_digit, hex}
+use Rattle.event_log.proofs.Plain.{choose, hexed, join, kept, number, two_digits}
 use Rattle.window.specs.Text.{spelled, word, label_onto, labels_onto, amount_onto, heading_onto, sample_onto}
 use Rattle.window.specs.declared.line.Label.{Label}
 use Rattle.window.specs.declared.line.Label.TheVariants as labels
 use Rattle.window.specs.declared.line.Amount.{Amount}
 use Rattle.window.specs.declared.line.Amount.TheVariants as amounts
 
-both : (a b : Bool) → a ≡ true → b ≡ true → (a && b) ≡ true
-both true b pa pb = pb
-both false b pa pb = absurd (cc)
-
-choose : (t : Bool) (x y : List ℕ) → are_plain x ≡ true → are_plain y ≡ true → are_plain (if t then x else y) ≡ true
-choose true x y px py = px
-choose false x y px py = py
-
-join : (a b : List ℕ) → are_plain a ≡ true → are_plain b ≡ true → are_plain (a ++ b) ≡ true
-join a b pa pb = list_all-append is_plain a b ∙ both (are_plain a) (are_plain b) pa pb
-
--- ---- numbers
-
-glyph : (d : ℕ) → d < 16 → is_plain (digit_glyph false d) ≡ true
-glyph d lt = grind (arith, nat_tests)
-
-ten : (k n : ℕ) (acc : List ℕ) → are_plain acc ≡ true → are_plain (digits_onto k 10 false n acc) ≡ true
-ten zero n acc p = p
-ten (suc k) n acc p =
-    let q : are_plain (digit_glyph false (n % 10) ∷ acc) ≡ true =
-    both (is_plain (digit_glyph false (n % 10))) (are_plain acc) (glyph (n % 10) (omega arith)) p in
-    choose (n / 10 == 0) (digit_glyph false (n % 10) ∷ acc)
-    (digits_onto k 10 false (n / 10) (digit_glyph false (n % 10) ∷ acc)) q
-    (ten k (n / 10) (digit_glyph false (n % 10) ∷ acc) q)
-
-sixteen : (k n : ℕ) (acc : List ℕ) → are_plain acc ≡ true → are_plain (digits_onto k 16 false n acc) ≡ true
-sixteen zero n acc p = p
-sixteen (suc k) n acc p =
-    let q : are_plain (digit_glyph false (n % 16) ∷ acc) ≡ true =
-    both (is_plain (digit_glyph false (n % 16))) (are_plain acc) (glyph (n % 16) (omega arith)) p in
-    choose (n / 16 == 0) (digit_glyph false (n % 16) ∷ acc)
-    (digits_onto k 16 false (n / 16) (digit_glyph false (n % 16) ∷ acc)) q
-    (sixteen k (n / 16) (digit_glyph false (n % 16) ∷ acc) q)
-
-number : (n : ℕ) → are_plain (decimal n) ≡ true
-unfolding digits
-number n = ten 64 n [] refl
-
-hexed : (n : ℕ) → are_plain (hex n) ≡ true
-unfolding digits
-hexed n = sixteen 64 n [] refl
-
 -- ---- texts that may come from outside
-
-kept : (b : ℕ) (t : Bool) (x : List ℕ) → is_plain b ≡ t → are_plain x ≡ true → are_plain (if t then b ∷ [] else x) ≡ true
-kept b true x e p = both (is_plain b) true e refl
-kept b false x e p = p
 
 abbrev hidden_text : ℕ → List ℕ
 hidden_text b = 92 ∷ 92 ∷ 120 ∷ hex_digit (b / 16 % 16) ∷ hex_digit (b % 16) ∷ []
@@ -70,15 +21,10 @@ visible b = if is_plain b then b ∷ [] else hidden_text b
 abbrev behind_a_quote : ℕ → List ℕ
 behind_a_quote b = if nat_eq b 92 then codes "\\\\" else visible b
 
-hidden : (b : ℕ) → are_plain (hidden_text b) ≡ true
-hidden b =
-    both (is_plain (hex_digit (b / 16 % 16))) (are_plain (hex_digit (b % 16) ∷ [])) (glyph (b / 16 % 16) (omega arith))
-    (both (is_plain (hex_digit (b % 16))) true (glyph (b % 16) (omega arith)) refl)
-
 one : (b : ℕ) → are_plain (spelled b) ≡ true
 one b =
     choose (nat_eq b 34) (codes "\\\"") (behind_a_quote b) refl (choose (nat_eq b 92) (codes "\\\\") (visible b) refl
-    (kept b (is_plain b) (hidden_text b) refl (hidden b)))
+    (kept b (is_plain b) (hidden_text b) refl (two_digits b)))
 
 many : (bytes : List ℕ) → are_plain (word bytes) ≡ true
 many [] = refl

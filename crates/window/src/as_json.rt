@@ -1,6 +1,8 @@
 //! What is seen, as JSON.
 
-use crate::view::{Commands, Controller, Registration, Route, Session, Tally, Unit, View};
+use crate::view::{
+    ArrayView, Commands, Controller, NamedCount, PathView, Registration, SessionView, UnitView,
+};
 use json::Writer;
 use std::alloc::{AllocError, Global};
 
@@ -98,7 +100,7 @@ fn put_texts(json: &mut Writer, name: &str, texts: &[String]) -> Result<(), Allo
     end_array(json)
 }
 
-fn put_tallies(json: &mut Writer, name: &str, tallies: &[Tally]) -> Result<(), AllocError> {
+fn put_tallies(json: &mut Writer, name: &str, tallies: &[NamedCount]) -> Result<(), AllocError> {
     begin_array(json, name)?;
     for tally in tallies {
         let what = ("what", Value::Text(tally.what));
@@ -130,23 +132,23 @@ fn put_commands(json: &mut Writer, commands: &Commands) -> Result<(), AllocError
     end_object(json)
 }
 
-fn put_route(json: &mut Writer, route: &Route) -> Result<(), AllocError> {
+fn put_path(json: &mut Writer, path: &PathView) -> Result<(), AllocError> {
     let members = &[
-        ("controller", Value::Number(route.controller)),
-        ("state", Value::Number(route.state)),
-        ("state_words", Value::Text(route.state_words)),
+        ("controller", Value::Number(path.controller)),
+        ("state", Value::Number(path.state)),
+        ("state_words", Value::Text(path.state_words)),
     ];
     begin_object(json)?;
     put_members(json, members)?;
     put_key(json, "commands")?;
-    put_commands(json, &route.commands)?;
+    put_commands(json, &path.commands)?;
     end_object(json)
 }
 
-fn put_paths(json: &mut Writer, paths: &[Route]) -> Result<(), AllocError> {
+fn put_paths(json: &mut Writer, paths: &[PathView]) -> Result<(), AllocError> {
     begin_array(json, "paths")?;
-    for route in paths {
-        put_route(json, route)?;
+    for path in paths {
+        put_path(json, path)?;
     }
     end_array(json)
 }
@@ -171,7 +173,7 @@ fn put_all_registrations(json: &mut Writer, all: &[Registration]) -> Result<(), 
     end_array(json)
 }
 
-fn put_registrations(json: &mut Writer, unit: &Unit) -> Result<(), AllocError> {
+fn put_registrations(json: &mut Writer, unit: &UnitView) -> Result<(), AllocError> {
     match &unit.registrations {
         Some(all) => put_all_registrations(json, all),
         None => put_members(json, &[("registrations", Value::Nothing)]),
@@ -179,7 +181,7 @@ fn put_registrations(json: &mut Writer, unit: &Unit) -> Result<(), AllocError> {
 }
 
 // The numbers of a unit and of its reservation.
-fn put_numbers_of(json: &mut Writer, unit: &Unit) -> Result<(), AllocError> {
+fn put_numbers_of(json: &mut Writer, unit: &UnitView) -> Result<(), AllocError> {
     let members = &[
         ("unit", Value::Number(unit.unit)),
         ("owner", Value::Number(unit.owner)),
@@ -191,7 +193,7 @@ fn put_numbers_of(json: &mut Writer, unit: &Unit) -> Result<(), AllocError> {
 }
 
 // Its history and its files.
-fn put_files_of(json: &mut Writer, unit: &Unit) -> Result<(), AllocError> {
+fn put_files_of(json: &mut Writer, unit: &UnitView) -> Result<(), AllocError> {
     let members = &[
         ("entries", Value::Number(unit.entries)),
         ("disk", Value::Text(unit.disk.as_str())),
@@ -205,7 +207,7 @@ fn put_files_of(json: &mut Writer, unit: &Unit) -> Result<(), AllocError> {
     put_members(json, members)
 }
 
-fn put_unit(json: &mut Writer, unit: &Unit) -> Result<(), AllocError> {
+fn put_unit(json: &mut Writer, unit: &UnitView) -> Result<(), AllocError> {
     begin_object(json)?;
     put_numbers_of(json, unit)?;
     put_registrations(json, unit)?;
@@ -219,7 +221,7 @@ fn put_unit(json: &mut Writer, unit: &Unit) -> Result<(), AllocError> {
     end_object(json)
 }
 
-fn put_units(json: &mut Writer, units: &[Unit]) -> Result<(), AllocError> {
+fn put_units(json: &mut Writer, units: &[UnitView]) -> Result<(), AllocError> {
     begin_array(json, "units")?;
     for unit in units {
         put_unit(json, unit)?;
@@ -228,7 +230,7 @@ fn put_units(json: &mut Writer, units: &[Unit]) -> Result<(), AllocError> {
 }
 
 // Who a session is.
-fn put_peer(json: &mut Writer, session: &Session) -> Result<(), AllocError> {
+fn put_peer(json: &mut Writer, session: &SessionView) -> Result<(), AllocError> {
     let members = &[
         ("initiator", Value::Text(session.initiator.as_str())),
         ("isid", Value::Text(session.isid.as_str())),
@@ -242,14 +244,14 @@ fn put_peer(json: &mut Writer, session: &Session) -> Result<(), AllocError> {
 }
 
 // Its last command, and since when that has ended, where there was one.
-fn last_command(session: &Session) -> Value<'static> {
+fn last_command(session: &SessionView) -> Value<'static> {
     match session.last_command {
         Some(command) => Value::Text(command),
         None => Value::Nothing,
     }
 }
 
-fn idle(session: &Session) -> Value<'static> {
+fn idle(session: &SessionView) -> Value<'static> {
     match session.idle_micros {
         Some(micros) => Value::Number(micros),
         None => Value::Nothing,
@@ -257,7 +259,7 @@ fn idle(session: &Session) -> Value<'static> {
 }
 
 // What it did.
-fn put_deeds(json: &mut Writer, session: &Session) -> Result<(), AllocError> {
+fn put_deeds(json: &mut Writer, session: &SessionView) -> Result<(), AllocError> {
     let members = &[
         ("since", Value::Number(session.since)),
         ("last_command", last_command(session)),
@@ -267,14 +269,14 @@ fn put_deeds(json: &mut Writer, session: &Session) -> Result<(), AllocError> {
     put_members(json, members)
 }
 
-fn put_session(json: &mut Writer, session: &Session) -> Result<(), AllocError> {
+fn put_session(json: &mut Writer, session: &SessionView) -> Result<(), AllocError> {
     begin_object(json)?;
     put_peer(json, session)?;
     put_deeds(json, session)?;
     end_object(json)
 }
 
-fn put_sessions(json: &mut Writer, sessions: &[Session]) -> Result<(), AllocError> {
+fn put_sessions(json: &mut Writer, sessions: &[SessionView]) -> Result<(), AllocError> {
     begin_array(json, "sessions")?;
     for session in sessions {
         put_session(json, session)?;
@@ -302,7 +304,7 @@ fn put_controllers(json: &mut Writer, controllers: &[Controller]) -> Result<(), 
 }
 
 // What the array is, and since when.
-fn put_array(json: &mut Writer, view: &View) -> Result<(), AllocError> {
+fn put_array(json: &mut Writer, view: &ArrayView) -> Result<(), AllocError> {
     let members = &[
         ("version", Value::Text(view.version)),
         ("target", Value::Text(view.target.as_str())),
@@ -313,7 +315,7 @@ fn put_array(json: &mut Writer, view: &View) -> Result<(), AllocError> {
     put_members(json, members)
 }
 
-fn put_view(json: &mut Writer, view: &View) -> Result<(), AllocError> {
+fn put_view(json: &mut Writer, view: &ArrayView) -> Result<(), AllocError> {
     begin_object(json)?;
     put_array(json, view)?;
     put_controllers(json, &view.controllers)?;
@@ -327,7 +329,7 @@ fn put_view(json: &mut Writer, view: &View) -> Result<(), AllocError> {
 }
 
 /// What is seen of an array, as JSON.
-pub(crate) fn status(alloc: Global, view: &View) -> Result<Vec<u8>, AllocError> {
+pub(crate) fn status(alloc: Global, view: &ArrayView) -> Result<Vec<u8>, AllocError> {
     let mut json = Writer::new(Vec::new(alloc));
     put_view(&mut json, view)?;
     Ok(json.into_inner())

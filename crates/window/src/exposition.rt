@@ -1,8 +1,8 @@
 //! What is measured, in lines.
 
-use crate::headings::{Heading, OF_ARRAY, OF_ROUTES, OF_UNITS, OfArray, OfRoute, OfUnit};
+use crate::headings::{Heading, OF_ARRAY, OF_ROUTES, OF_UNITS, OfArray, OfPath, OfUnit};
 use crate::line::{Amount, Label, put_help, put_sample, put_type};
-use crate::view::{Commands, Controller, Route, Session, Tally, Unit, View};
+use crate::view::{ArrayView, Commands, Controller, NamedCount, PathView, SessionView, UnitView};
 use std::alloc::{AllocError, Global};
 
 /// The bounds of the buckets of times in seconds, as labels tell them.
@@ -44,7 +44,7 @@ fn count(
 }
 
 // The version, and the target's name.
-fn build(text: &mut String, name: &str, view: &View) -> Result<(), AllocError> {
+fn build(text: &mut String, name: &str, view: &ArrayView) -> Result<(), AllocError> {
     let version = Label::Word("version", view.version);
     let target = Label::Name("target", view.target.as_bytes());
     let array = Label::Number("array", view.array);
@@ -52,7 +52,7 @@ fn build(text: &mut String, name: &str, view: &View) -> Result<(), AllocError> {
 }
 
 // Logins that were refused, by what was lacking.
-fn refused(text: &mut String, name: &str, tallies: &[Tally]) -> Result<(), AllocError> {
+fn refused(text: &mut String, name: &str, tallies: &[NamedCount]) -> Result<(), AllocError> {
     for tally in tallies {
         count(text, name, &[Label::Word("cause", tally.what)], tally.count)?;
     }
@@ -69,7 +69,7 @@ fn sessions(text: &mut String, name: &str, controllers: &[Controller]) -> Result
 }
 
 // The labels of a session.
-fn labels_of(session: &Session) -> [Label<'_>; 5] {
+fn labels_of(session: &SessionView) -> [Label<'_>; 5] {
     [
         Label::Name("initiator", session.initiator.as_bytes()),
         Label::Name("isid", session.isid.as_bytes()),
@@ -80,7 +80,7 @@ fn labels_of(session: &Session) -> [Label<'_>; 5] {
 }
 
 // Commands of each session.
-fn of_sessions(text: &mut String, name: &str, sessions: &[Session]) -> Result<(), AllocError> {
+fn of_sessions(text: &mut String, name: &str, sessions: &[SessionView]) -> Result<(), AllocError> {
     for session in sessions {
         count(text, name, &labels_of(session), session.commands)?;
     }
@@ -88,7 +88,7 @@ fn of_sessions(text: &mut String, name: &str, sessions: &[Session]) -> Result<()
 }
 
 // A metric of the array.
-fn of_array(text: &mut String, view: &View, what: OfArray) -> Result<(), AllocError> {
+fn of_array(text: &mut String, view: &ArrayView, what: OfArray) -> Result<(), AllocError> {
     let name = begin(text, what.heading())?;
     match what {
         OfArray::Build => build(text, name, view),
@@ -103,16 +103,16 @@ fn of_array(text: &mut String, view: &View, what: OfArray) -> Result<(), AllocEr
 }
 
 // The labels of a unit, and of it by a controller.
-fn unit_label(unit: &Unit) -> Label<'static> {
+fn unit_label(unit: &UnitView) -> Label<'static> {
     Label::Number("unit", unit.unit)
 }
 
-fn route_label(route: &Route) -> Label<'static> {
-    Label::Number("controller", route.controller)
+fn path_label(path: &PathView) -> Label<'static> {
+    Label::Number("controller", path.controller)
 }
 
 // The disk of a unit.
-fn disk(text: &mut String, name: &str, unit: &Unit) -> Result<(), AllocError> {
+fn disk(text: &mut String, name: &str, unit: &UnitView) -> Result<(), AllocError> {
     let disk = Label::Name("disk", unit.disk.as_bytes());
     count(text, name, &[unit_label(unit), disk], 1)
 }
@@ -121,9 +121,9 @@ fn disk(text: &mut String, name: &str, unit: &Unit) -> Result<(), AllocError> {
 fn failures(
     text: &mut String,
     name: &str,
-    unit: &Unit,
+    unit: &UnitView,
     file: &str,
-    failures: &[Tally],
+    failures: &[NamedCount],
 ) -> Result<(), AllocError> {
     for tally in failures {
         let labels = &[
@@ -137,7 +137,7 @@ fn failures(
 }
 
 // Those of both.
-fn all_failures(text: &mut String, name: &str, unit: &Unit) -> Result<(), AllocError> {
+fn all_failures(text: &mut String, name: &str, unit: &UnitView) -> Result<(), AllocError> {
     failures(text, name, unit, "disk", &unit.disk_failures)?;
     failures(
         text,
@@ -149,7 +149,7 @@ fn all_failures(text: &mut String, name: &str, unit: &Unit) -> Result<(), AllocE
 }
 
 // What may be wrong with a unit.
-fn troubles(text: &mut String, name: &str, unit: &Unit) -> Result<(), AllocError> {
+fn troubles(text: &mut String, name: &str, unit: &UnitView) -> Result<(), AllocError> {
     for tally in &unit.troubles {
         let labels = &[unit_label(unit), Label::Word("trouble", tally.what)];
         count(text, name, labels, tally.count)?;
@@ -158,17 +158,17 @@ fn troubles(text: &mut String, name: &str, unit: &Unit) -> Result<(), AllocError
 }
 
 // A count of a unit.
-fn of_one(text: &mut String, name: &str, unit: &Unit, number: u64) -> Result<(), AllocError> {
+fn of_one(text: &mut String, name: &str, unit: &UnitView, number: u64) -> Result<(), AllocError> {
     count(text, name, &[unit_label(unit)], number)
 }
 
 // A time of a unit, in microseconds.
-fn time(text: &mut String, name: &str, unit: &Unit, micros: u64) -> Result<(), AllocError> {
+fn time(text: &mut String, name: &str, unit: &UnitView, micros: u64) -> Result<(), AllocError> {
     put(text, name, &[unit_label(unit)], Amount::Micros(micros))
 }
 
 // What is measured of a unit.
-fn of_unit(text: &mut String, name: &str, unit: &Unit, what: OfUnit) -> Result<(), AllocError> {
+fn of_unit(text: &mut String, name: &str, unit: &UnitView, what: OfUnit) -> Result<(), AllocError> {
     match what {
         OfUnit::Owner => of_one(text, name, unit, unit.owner),
         OfUnit::Generation => of_one(text, name, unit, unit.generation),
@@ -184,7 +184,7 @@ fn of_unit(text: &mut String, name: &str, unit: &Unit, what: OfUnit) -> Result<(
 }
 
 // A metric of each unit.
-fn of_units(text: &mut String, units: &[Unit], what: OfUnit) -> Result<(), AllocError> {
+fn of_units(text: &mut String, units: &[UnitView], what: OfUnit) -> Result<(), AllocError> {
     let name = begin(text, what.heading())?;
     for unit in units {
         of_unit(text, name, unit, what)?;
@@ -196,22 +196,22 @@ fn of_units(text: &mut String, units: &[Unit], what: OfUnit) -> Result<(), Alloc
 fn of_both(
     text: &mut String,
     name: &str,
-    unit: &Unit,
-    route: &Route,
+    unit: &UnitView,
+    path: &PathView,
     number: u64,
 ) -> Result<(), AllocError> {
-    count(text, name, &[unit_label(unit), route_label(route)], number)
+    count(text, name, &[unit_label(unit), path_label(path)], number)
 }
 
 fn of_three(
     text: &mut String,
     name: &str,
-    unit: &Unit,
-    route: &Route,
+    unit: &UnitView,
+    path: &PathView,
     label: Label<'_>,
     number: u64,
 ) -> Result<(), AllocError> {
-    let labels = &[unit_label(unit), route_label(route), label];
+    let labels = &[unit_label(unit), path_label(path), label];
     count(text, name, labels, number)
 }
 
@@ -233,10 +233,15 @@ fn all_checks(commands: &Commands) -> u64 {
 }
 
 // The commands of a unit by a controller, by their operations.
-fn operations(text: &mut String, name: &str, unit: &Unit, route: &Route) -> Result<(), AllocError> {
-    for tally in &route.commands.operations {
+fn operations(
+    text: &mut String,
+    name: &str,
+    unit: &UnitView,
+    path: &PathView,
+) -> Result<(), AllocError> {
+    for tally in &path.commands.operations {
         let label = Label::Word("operation", tally.what);
-        of_three(text, name, unit, route, label, tally.count)?;
+        of_three(text, name, unit, path, label, tally.count)?;
     }
     Ok(())
 }
@@ -252,19 +257,24 @@ fn ends(commands: &Commands) -> [(&'static str, u64); 4] {
 }
 
 // Those of a unit by a controller.
-fn statuses(text: &mut String, name: &str, unit: &Unit, route: &Route) -> Result<(), AllocError> {
-    for (status, count) in &ends(&route.commands) {
+fn statuses(
+    text: &mut String,
+    name: &str,
+    unit: &UnitView,
+    path: &PathView,
+) -> Result<(), AllocError> {
+    for (status, count) in &ends(&path.commands) {
         let label = Label::Word("status", *status);
-        of_three(text, name, unit, route, label, *count)?;
+        of_three(text, name, unit, path, label, *count)?;
     }
     Ok(())
 }
 
 // Those that ended with CHECK CONDITION, by their sense key.
-fn keys(text: &mut String, name: &str, unit: &Unit, route: &Route) -> Result<(), AllocError> {
-    for (key, count) in route.commands.sense_keys.iter().enumerate() {
+fn keys(text: &mut String, name: &str, unit: &UnitView, path: &PathView) -> Result<(), AllocError> {
+    for (key, count) in path.commands.sense_keys.iter().enumerate() {
         let label = Label::Hex("sense_key", key as u64);
-        of_three(text, name, unit, route, label, *count)?;
+        of_three(text, name, unit, path, label, *count)?;
     }
     Ok(())
 }
@@ -278,16 +288,16 @@ fn bound_text(place: usize) -> &'static str {
 }
 
 // The buckets of the times that commands of a unit took by a controller; returns how many commands there were.
-fn buckets(text: &mut String, unit: &Unit, route: &Route) -> Result<u64, AllocError> {
+fn buckets(text: &mut String, unit: &UnitView, path: &PathView) -> Result<u64, AllocError> {
     let mut all = 0u64;
-    for (place, count) in route.commands.buckets.iter().enumerate() {
+    for (place, count) in path.commands.buckets.iter().enumerate() {
         all = all.wrapping_add(*count);
         let label = Label::Word("le", bound_text(place));
         of_three(
             text,
             "arrayd_command_duration_seconds_bucket",
             unit,
-            route,
+            path,
             label,
             all,
         )?;
@@ -296,49 +306,54 @@ fn buckets(text: &mut String, unit: &Unit, route: &Route) -> Result<u64, AllocEr
 }
 
 // These times.
-fn times(text: &mut String, unit: &Unit, route: &Route) -> Result<(), AllocError> {
-    let all = buckets(text, unit, route)?;
-    let labels = &[unit_label(unit), route_label(route)];
-    let sum = Amount::Micros(route.commands.micros);
+fn times(text: &mut String, unit: &UnitView, path: &PathView) -> Result<(), AllocError> {
+    let all = buckets(text, unit, path)?;
+    let labels = &[unit_label(unit), path_label(path)];
+    let sum = Amount::Micros(path.commands.micros);
     put(text, "arrayd_command_duration_seconds_sum", labels, sum)?;
     count(text, "arrayd_command_duration_seconds_count", labels, all)
 }
 
 // What is measured of a unit by a controller.
-fn of_route(
+fn of_path(
     text: &mut String,
     name: &str,
-    unit: &Unit,
-    route: &Route,
-    what: OfRoute,
+    unit: &UnitView,
+    path: &PathView,
+    what: OfPath,
 ) -> Result<(), AllocError> {
-    let commands = &route.commands;
+    let commands = &path.commands;
     match what {
-        OfRoute::State => of_both(text, name, unit, route, route.state),
-        OfRoute::Read => of_both(text, name, unit, route, commands.read_bytes),
-        OfRoute::Written => of_both(text, name, unit, route, commands.written_bytes),
-        OfRoute::Conflicts => of_both(text, name, unit, route, commands.reservation_conflicts),
-        OfRoute::Busy => of_both(text, name, unit, route, commands.busy),
-        OfRoute::Miscompares => of_both(text, name, unit, route, checks(commands, MISCOMPARE)),
-        OfRoute::Flushes => of_both(text, name, unit, route, commands.flushes),
-        OfRoute::FailedFlushes => of_both(text, name, unit, route, commands.failed_flushes),
-        OfRoute::Operations => operations(text, name, unit, route),
-        OfRoute::Statuses => statuses(text, name, unit, route),
-        OfRoute::SenseKeys => keys(text, name, unit, route),
-        OfRoute::Times => times(text, unit, route),
+        OfPath::State => of_both(text, name, unit, path, path.state),
+        OfPath::Read => of_both(text, name, unit, path, commands.read_bytes),
+        OfPath::Written => of_both(text, name, unit, path, commands.written_bytes),
+        OfPath::Conflicts => of_both(text, name, unit, path, commands.reservation_conflicts),
+        OfPath::Busy => of_both(text, name, unit, path, commands.busy),
+        OfPath::Miscompares => of_both(text, name, unit, path, checks(commands, MISCOMPARE)),
+        OfPath::Flushes => of_both(text, name, unit, path, commands.flushes),
+        OfPath::FailedFlushes => of_both(text, name, unit, path, commands.failed_flushes),
+        OfPath::Operations => operations(text, name, unit, path),
+        OfPath::Statuses => statuses(text, name, unit, path),
+        OfPath::SenseKeys => keys(text, name, unit, path),
+        OfPath::Times => times(text, unit, path),
     }
 }
 
 // A metric of a unit by each controller.
-fn of_paths(text: &mut String, name: &str, unit: &Unit, what: OfRoute) -> Result<(), AllocError> {
-    for route in &unit.paths {
-        of_route(text, name, unit, route, what)?;
+fn of_paths(
+    text: &mut String,
+    name: &str,
+    unit: &UnitView,
+    what: OfPath,
+) -> Result<(), AllocError> {
+    for path in &unit.paths {
+        of_path(text, name, unit, path, what)?;
     }
     Ok(())
 }
 
 // A metric of each unit by each controller.
-fn of_routes(text: &mut String, units: &[Unit], what: OfRoute) -> Result<(), AllocError> {
+fn of_all_paths(text: &mut String, units: &[UnitView], what: OfPath) -> Result<(), AllocError> {
     let name = begin(text, what.heading())?;
     for unit in units {
         of_paths(text, name, unit, what)?;
@@ -347,31 +362,31 @@ fn of_routes(text: &mut String, units: &[Unit], what: OfRoute) -> Result<(), All
 }
 
 // All metrics of units, and all of units by controllers.
-fn all_of_units(text: &mut String, units: &[Unit]) -> Result<(), AllocError> {
+fn all_of_units(text: &mut String, units: &[UnitView]) -> Result<(), AllocError> {
     for what in &OF_UNITS {
         of_units(text, units, *what)?;
     }
     Ok(())
 }
 
-fn all_of_routes(text: &mut String, units: &[Unit]) -> Result<(), AllocError> {
+fn all_of_paths(text: &mut String, units: &[UnitView]) -> Result<(), AllocError> {
     for what in &OF_ROUTES {
-        of_routes(text, units, *what)?;
+        of_all_paths(text, units, *what)?;
     }
     Ok(())
 }
 
 // Everything.
-fn all(text: &mut String, view: &View) -> Result<(), AllocError> {
+fn all(text: &mut String, view: &ArrayView) -> Result<(), AllocError> {
     for what in &OF_ARRAY {
         of_array(text, view, *what)?;
     }
     all_of_units(text, &view.units)?;
-    all_of_routes(text, &view.units)
+    all_of_paths(text, &view.units)
 }
 
 /// What is measured of an array, in lines.
-pub fn metrics(alloc: Global, view: &View) -> Result<String, AllocError> {
+pub fn metrics(alloc: Global, view: &ArrayView) -> Result<String, AllocError> {
     let mut text = String::new(alloc);
     all(&mut text, view)?;
     Ok(text)

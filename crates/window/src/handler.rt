@@ -5,7 +5,7 @@ use crate::as_json::status;
 use crate::exposition::metrics;
 use crate::html::PAGE;
 use crate::troubles::health;
-use crate::view::View;
+use crate::view::ArrayView;
 use bytes::{BufMut, Bytes};
 use http::{HeaderName, HeaderValue, Request, StatusCode, header};
 use http_server::{Response, Service};
@@ -14,7 +14,7 @@ use std::alloc::{AllocError, Global};
 /// What collects the state of an array.
 pub trait Collector {
     /// The state now.
-    fn collect(&self, alloc: Global) -> Result<View, AllocError>;
+    fn collect(&self, alloc: Global) -> Result<ArrayView, AllocError>;
 }
 
 /// Answers requests by what is collected.
@@ -75,19 +75,23 @@ fn say(response: &mut Response, status: StatusCode, text: &[u8]) -> Result<(), A
 }
 
 // What is measured.
-fn tell_metrics(alloc: Global, view: &View, response: &mut Response) -> Result<(), AllocError> {
+fn tell_metrics(
+    alloc: Global,
+    view: &ArrayView,
+    response: &mut Response,
+) -> Result<(), AllocError> {
     let text = metrics(alloc, view)?;
     fill(response, measured(), text.into_bytes())
 }
 
 // What is seen.
-fn tell_status(alloc: Global, view: &View, response: &mut Response) -> Result<(), AllocError> {
+fn tell_status(alloc: Global, view: &ArrayView, response: &mut Response) -> Result<(), AllocError> {
     let text = status(alloc, view)?;
     fill(response, json(), text)
 }
 
 // What is wrong.
-fn tell_health(alloc: Global, view: &View, response: &mut Response) -> Result<(), AllocError> {
+fn tell_health(alloc: Global, view: &ArrayView, response: &mut Response) -> Result<(), AllocError> {
     if !view.problems.is_empty() {
         response.status = StatusCode::SERVICE_UNAVAILABLE;
     }

@@ -151,7 +151,7 @@ impl OfUnit {
 
 /// What is measured of a unit by a controller.
 #[derive(Clone, Copy)]
-pub(crate) enum OfRoute {
+pub(crate) enum OfPath {
     State,
     Read,
     Written,
@@ -167,80 +167,80 @@ pub(crate) enum OfRoute {
 }
 
 /// All of it, in the order of its lines.
-pub(crate) const OF_ROUTES: [OfRoute; 12] = [
-    OfRoute::State,
-    OfRoute::Read,
-    OfRoute::Written,
-    OfRoute::Conflicts,
-    OfRoute::Busy,
-    OfRoute::Miscompares,
-    OfRoute::Flushes,
-    OfRoute::FailedFlushes,
-    OfRoute::Operations,
-    OfRoute::Statuses,
-    OfRoute::SenseKeys,
-    OfRoute::Times,
+pub(crate) const OF_ROUTES: [OfPath; 12] = [
+    OfPath::State,
+    OfPath::Read,
+    OfPath::Written,
+    OfPath::Conflicts,
+    OfPath::Busy,
+    OfPath::Miscompares,
+    OfPath::Flushes,
+    OfPath::FailedFlushes,
+    OfPath::Operations,
+    OfPath::Statuses,
+    OfPath::SenseKeys,
+    OfPath::Times,
 ];
 
-impl OfRoute {
+impl OfPath {
     pub(crate) fn heading(self) -> Heading {
         match self {
-            OfRoute::State => (
+            OfPath::State => (
                 "arrayd_path_state",
                 "gauge",
                 "The asymmetric access state by SPC-4: 0 active/optimized, 1 active/non-optimized, 2 standby, 3 unavailable.",
             ),
-            OfRoute::Read => (
+            OfPath::Read => (
                 "arrayd_read_bytes_total",
                 "counter",
                 "Bytes that were read by commands that were GOOD.",
             ),
-            OfRoute::Written => (
+            OfPath::Written => (
                 "arrayd_written_bytes_total",
                 "counter",
                 "Bytes that were written by commands that were GOOD.",
             ),
-            OfRoute::Conflicts => (
+            OfPath::Conflicts => (
                 "arrayd_reservation_conflicts_total",
                 "counter",
                 "Commands that ended with RESERVATION CONFLICT.",
             ),
-            OfRoute::Busy => (
+            OfPath::Busy => (
                 "arrayd_busy_total",
                 "counter",
                 "Commands that ended with BUSY.",
             ),
-            OfRoute::Miscompares => (
+            OfPath::Miscompares => (
                 "arrayd_miscompares_total",
                 "counter",
                 "COMPARE AND WRITE commands that found a difference.",
             ),
-            OfRoute::Flushes => (
+            OfPath::Flushes => (
                 "arrayd_flushes_total",
                 "counter",
                 "SYNCHRONIZE CACHE commands, and WRITE and COMPARE AND WRITE commands with FUA.",
             ),
-            OfRoute::FailedFlushes => (
+            OfPath::FailedFlushes => (
                 "arrayd_failed_flushes_total",
                 "counter",
                 "Those of these commands that ended with MEDIUM ERROR.",
             ),
-            OfRoute::Operations => (
+            OfPath::Operations => (
                 "arrayd_commands_total",
                 "counter",
                 "Commands that were answered, by what they asked for.",
             ),
-            OfRoute::Statuses => (
+            OfPath::Statuses => (
                 "arrayd_ended_commands_total",
                 "counter",
                 "Commands that were answered, by the status of SAM-5 with which they ended.",
             ),
-            OfRoute::SenseKeys => (
+            OfPath::SenseKeys => (
                 "arrayd_check_conditions_total",
                 "counter",
                 "Commands that ended with CHECK CONDITION, by their sense key.",
             ),
-            OfRoute::Times => (
+            OfPath::Times => (
                 "arrayd_command_duration_seconds",
                 "histogram",
                 "The time from a command's last byte to its answer.",

@@ -1,10 +1,10 @@
 //! The lines in which Prometheus reads what is measured.
-ghost use Rattle.std.specs.Prelude.{◌≡◌, ◌++◌, ◌∷◌, [], ◌<◌, ◌/◌, ◌%◌, codes, OnOk};
+ghost use Rattle.std.specs.Prelude.{◌≡◌, ◌++◌, ◌∷◌, [], codes, OnOk};
 ghost use Rattle.std.specs.String.{string_bytes};
 ghost use Rattle.std.specs.List.{flat_map};
-ghost use Rattle.event_log.specs.Text.{hex_digit};
 ghost use Rattle.window.specs.Text.{amount_onto, heading_onto, label_onto, labels_onto, sample_onto, spelled, word};
 
+use event_log::hide;
 use std::alloc::AllocError;
 
 /// A label of a sample: its name, and its value.
@@ -25,24 +25,6 @@ pub enum Amount {
     Micros(u64),
 }
 
-// A digit of a byte that is no printing character.
-fn hex_digit_of(d: u8) -> char
-    requires { d < 16 }
-    ensures { result ≡ hex_digit d }
-{
-    char::from(if d < 10 { b'0' + d } else { b'a' - 10 + d })
-}
-
-// A byte that is no printing character.
-fn hidden(text: &mut String, b: u8) -> Result<(), AllocError>
-    ensures { OnOk result (string_bytes text.new ≡ ((string_bytes text.old ++ codes "\\\\x") ++ hex_digit (b / 16 % 16) ∷ [])
-        ++ hex_digit (b % 16) ∷ []) }
-{
-    text.push_str("\\\\x")?;
-    text.push(hex_digit_of(b / 16 % 16))?;
-    text.push(hex_digit_of(b % 16))
-}
-
 // A byte of a text that may come from outside.
 fn byte(text: &mut String, b: u8) -> Result<(), AllocError>
     ensures { OnOk result (string_bytes text.new ≡ string_bytes text.old ++ spelled b) }
@@ -51,7 +33,7 @@ fn byte(text: &mut String, b: u8) -> Result<(), AllocError>
         b'"' => text.push_str("\\\""),
         b'\\' => text.push_str("\\\\"),
         32..127 => text.push(char::from(b)),
-        _ => hidden(text, b),
+        _ => hide(text, "\\\\x", b),
     }
 }
 

@@ -1,6 +1,6 @@
 //! What is counted, made into what is seen.
 
-use crate::view::{Commands, Route, Session, Tally, state_words};
+use crate::view::{Commands, NamedCount, PathView, SessionView, state_words};
 use event_log::{CALLS_IN_ORDER, CAUSES_IN_ORDER, Counts, IN_ORDER, SessionSeen, escape};
 use std::alloc::{AllocError, Global};
 
@@ -12,10 +12,10 @@ pub fn spelled(alloc: Global, name: &[u8]) -> Result<String, AllocError> {
 }
 
 // Operations, and how often each was counted.
-fn operations(alloc: Global, counts: &[u64]) -> Result<Vec<Tally>, AllocError> {
+fn operations(alloc: Global, counts: &[u64]) -> Result<Vec<NamedCount>, AllocError> {
     let mut tallies = Vec::new(alloc);
     for (operation, count) in IN_ORDER.iter().zip(counts) {
-        tallies.push(Tally {
+        tallies.push(NamedCount {
             what: operation.text(),
             count: *count,
         })?;
@@ -24,10 +24,10 @@ fn operations(alloc: Global, counts: &[u64]) -> Result<Vec<Tally>, AllocError> {
 }
 
 /// Calls of the system that failed, and how often each did.
-pub fn failures(alloc: Global, counts: &[u64]) -> Result<Vec<Tally>, AllocError> {
+pub fn failures(alloc: Global, counts: &[u64]) -> Result<Vec<NamedCount>, AllocError> {
     let mut tallies = Vec::new(alloc);
     for (call, count) in CALLS_IN_ORDER.iter().zip(counts) {
-        tallies.push(Tally {
+        tallies.push(NamedCount {
             what: call.text(),
             count: *count,
         })?;
@@ -36,10 +36,10 @@ pub fn failures(alloc: Global, counts: &[u64]) -> Result<Vec<Tally>, AllocError>
 }
 
 /// What was lacking where logins were refused, and how often each was.
-pub fn refusals(alloc: Global, counts: &[u64]) -> Result<Vec<Tally>, AllocError> {
+pub fn refusals(alloc: Global, counts: &[u64]) -> Result<Vec<NamedCount>, AllocError> {
     let mut tallies = Vec::new(alloc);
     for (cause, count) in CAUSES_IN_ORDER.iter().zip(counts) {
-        tallies.push(Tally {
+        tallies.push(NamedCount {
             what: *cause,
             count: *count,
         })?;
@@ -65,17 +65,17 @@ fn commands(alloc: Global, counts: &Counts) -> Result<Commands, AllocError> {
 }
 
 /// A unit by a controller, in this access state.
-pub fn route(
+pub fn path(
     alloc: Global,
     controller: u64,
     state: u64,
     counts: Option<&Counts>,
-) -> Result<Route, AllocError> {
+) -> Result<PathView, AllocError> {
     let commands = match counts {
         Some(counts) => commands(alloc, counts)?,
         None => commands(alloc, &Counts::none())?,
     };
-    Ok(Route {
+    Ok(PathView {
         controller,
         state,
         state_words: state_words(state),
@@ -84,9 +84,9 @@ pub fn route(
 }
 
 /// A session.
-pub fn session(alloc: Global, seen: &SessionSeen) -> Result<Session, AllocError> {
+pub fn session(alloc: Global, seen: &SessionSeen) -> Result<SessionView, AllocError> {
     let (isid, portal, peer) = (seen.isid, seen.path.portal, seen.path.from);
-    Ok(Session {
+    Ok(SessionView {
         initiator: spelled(alloc, &seen.name)?,
         isid: format!(in alloc; "0x{isid:x}")?,
         tsih: u64::from(seen.tsih),

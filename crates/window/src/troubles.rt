@@ -1,6 +1,6 @@
 //! What is wrong with an array, in sentences.
 
-use crate::view::{Tally, Unit, View};
+use crate::view::{ArrayView, NamedCount, UnitView};
 use event_log::{CALLS, Happenings};
 use std::alloc::{AllocError, Global};
 
@@ -145,10 +145,10 @@ impl Signs {
 }
 
 /// What may be wrong with a unit: 1 where it is.
-pub fn trouble_tallies(alloc: Global, signs: &Signs) -> Result<Vec<Tally>, AllocError> {
+pub fn trouble_tallies(alloc: Global, signs: &Signs) -> Result<Vec<NamedCount>, AllocError> {
     let mut tallies = Vec::new(alloc);
     for trouble in &ALL {
-        tallies.push(Tally {
+        tallies.push(NamedCount {
             what: trouble.name(),
             count: u64::from(signs.show(*trouble)),
         })?;
@@ -167,7 +167,7 @@ pub fn health_words(signs: &Signs) -> &'static str {
 }
 
 // Notes what is wrong with a unit.
-fn of_unit(alloc: Global, problems: &mut Vec<String>, unit: &Unit) -> Result<(), AllocError> {
+fn of_unit(alloc: Global, problems: &mut Vec<String>, unit: &UnitView) -> Result<(), AllocError> {
     let number = unit.unit;
     if unit.owner != 1 && unit.owner != 2 {
         problems.push(format!(in alloc; "unit {number}: no controller owns it")?)?;
@@ -183,7 +183,11 @@ fn of_unit(alloc: Global, problems: &mut Vec<String>, unit: &Unit) -> Result<(),
 }
 
 /// What is wrong with these units, and with a log that cannot be written, a sentence each.
-pub fn problems(alloc: Global, units: &[Unit], log_fails: bool) -> Result<Vec<String>, AllocError> {
+pub fn problems(
+    alloc: Global,
+    units: &[UnitView],
+    log_fails: bool,
+) -> Result<Vec<String>, AllocError> {
     let mut problems = Vec::new(alloc);
     if log_fails {
         problems.push(format!(in alloc; "The log cannot be written.")?)?;
@@ -195,7 +199,7 @@ pub fn problems(alloc: Global, units: &[Unit], log_fails: bool) -> Result<Vec<St
 }
 
 /// What is answered to who asks whether an array is well: `ok`, or a line for each thing that is wrong.
-pub fn health(alloc: Global, view: &View) -> Result<String, AllocError> {
+pub fn health(alloc: Global, view: &ArrayView) -> Result<String, AllocError> {
     let mut text = String::new(alloc);
     for problem in &view.problems {
         text.push_str(problem.as_str())?;

@@ -2,7 +2,7 @@
 
 /// How often something was counted, and what that is called.
 #[derive(Drop)]
-pub struct Tally {
+pub struct NamedCount {
     pub what: &'static str,
     pub count: u64,
 }
@@ -11,7 +11,7 @@ pub struct Tally {
 #[derive(Drop)]
 pub struct Commands {
     /// By their operations.
-    pub operations: Vec<Tally>,
+    pub operations: Vec<NamedCount>,
     pub read_bytes: u64,
     pub written_bytes: u64,
     pub good: u64,
@@ -30,7 +30,7 @@ pub struct Commands {
 
 /// A unit by a controller.
 #[derive(Drop)]
-pub struct Route {
+pub struct PathView {
     pub controller: u64,
     /// Its asymmetric access state (SPC-4, 5.15.2.2), as a number and in words.
     pub state: u64,
@@ -55,7 +55,7 @@ pub struct Registration {
 
 /// A unit.
 #[derive(Drop)]
-pub struct Unit {
+pub struct UnitView {
     pub unit: u64,
     /// The controller that owns it, 1 or 2.
     pub owner: u64,
@@ -76,18 +76,18 @@ pub struct Unit {
     /// Its disk's health in words.
     pub health: &'static str,
     /// What may be wrong with it: 1 where it is.
-    pub troubles: Vec<Tally>,
+    pub troubles: Vec<NamedCount>,
     /// Calls of the system that failed.
-    pub disk_failures: Vec<Tally>,
-    pub registration_failures: Vec<Tally>,
+    pub disk_failures: Vec<NamedCount>,
+    pub registration_failures: Vec<NamedCount>,
     /// For how long the oldest command is served.
     pub oldest_command_micros: u64,
-    pub paths: Vec<Route>,
+    pub paths: Vec<PathView>,
 }
 
 /// A session.
 #[derive(Drop)]
-pub struct Session {
+pub struct SessionView {
     /// The InitiatorName, as the log spells names.
     pub initiator: String,
     /// The ISID, in hexadecimal.
@@ -116,7 +116,7 @@ pub struct Controller {
 
 /// An array.
 #[derive(Drop)]
-pub struct View {
+pub struct ArrayView {
     pub version: &'static str,
     pub target: String,
     pub array: u64,
@@ -124,10 +124,10 @@ pub struct View {
     pub since: u64,
     pub uptime_micros: u64,
     pub controllers: Vec<Controller>,
-    pub units: Vec<Unit>,
-    pub sessions: Vec<Session>,
+    pub units: Vec<UnitView>,
+    pub sessions: Vec<SessionView>,
     pub logins: u64,
-    pub refused_logins: Vec<Tally>,
+    pub refused_logins: Vec<NamedCount>,
     /// The longest times of the buckets of times.
     pub bounds_micros: Vec<u64>,
     /// What is wrong, a sentence each.
