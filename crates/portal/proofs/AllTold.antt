@@ -84,7 +84,7 @@ alike_then some all s (e ∷ h) (f ∷ k) (g ∷ l) more first second = (
   pair_then some all e f g more first.0 second.0,
   second.1 ∙ first.1,
   alike_then some all (after s e) h k l more first.2
-  (subst (λ (x : UnitState). AreAlike some x k l) first.1 second.2),
+      (subst (λ (x : UnitState). AreAlike some x k l) first.1 second.2),
 )
 
 -- the two parts of what is alike to two parts
@@ -146,8 +146,11 @@ module _ (s : UnitState) where
   into_states h (Command session serial by asked bytes choice) was_reset is = absurd is
   into_states h (Command session serial by asked bytes choice) (replied told came reply) is =
       ⊎_elim
-      (λ (exact : (told ≡ asked) × _). (is.0, exact.0,
-      reply_at_end false s h (Command session serial by asked bytes choice) reply exact.1))
+      (λ (exact : (told ≡ asked) × _). (
+        is.0,
+        exact.0,
+        reply_at_end false s h (Command session serial by asked bytes choice) reply exact.1,
+      ))
       (λ (late : IsLate any_device never s h session serial by asked bytes choice told reply). absurd (false≢true late.is_late)) is.1
 
   out_of_states : (h : List Entry) (e : Entry) (d : Done) → IsIn (state_after s h) e d → IsEntry any_device never s h e d
@@ -239,7 +242,7 @@ module _ (s : UnitState) where
           p.first,
           as_many x d.0 p.first p.is_first ∙ d.1,
           p.is ∙ ap (λ (h : List Entry). p.first ++ h)
-          (alike_one sessions (state_after x d.0) (Detach session) p.second none p.is_second),
+              (alike_one sessions (state_after x d.0) (Detach session) p.second none p.is_second),
         )) is
       where
         none : (n : ℕ) → sessions n → is_own n (Detach session) ≡ false
@@ -336,8 +339,8 @@ join one sessions s (e ∷ h) (f ∷ t) (g ∷ k) other to_t to_k legal_t legal_
           legal = (legal_k.0, subst (λ (x : UnitState). IsLegal false x rest.both) (sym to_k.1) rest.legal);
           beside_others = (
             ⊎_elim (λ (same : f ≡ e). subst (λ (x : Entry). Pair (λ n. n ≡ one) x g) (sym same) to_k.0)
-            (λ (p : (n : ℕ) × sessions n × (is_own n e ≡ true) × (is_own n f ≡ true)).
-            absurd (other (subst sessions (one_session p.0 owned.0 e p.2 owned.2 ∙ owned.1) p.1))) to_t.0,
+                (λ (p : (n : ℕ) × sessions n × (is_own n e ≡ true) × (is_own n f ≡ true)).
+                absurd (other (subst sessions (one_session p.0 owned.0 e p.2 owned.2 ∙ owned.1) p.1))) to_t.0,
             to_k.1 ∙ sym to_t.1,
             subst (λ (x : UnitState). AreAlike (λ n. n ≡ one) x t rest.both) (sym to_t.1) rest.beside_others,
           );

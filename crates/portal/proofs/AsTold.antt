@@ -226,8 +226,8 @@ module _ (claims : Claims) (late : Late) (s : UnitState) (session : ℕ) where
         },
         t.1,
         alike_both (λ n. n ≡ session) s (front ++ behind) (front ++ t.0) rest rest
-        (alike_both (λ n. n ≡ session) s front front behind t.0 (alike_itself (λ n. n ≡ session) s front) t.3)
-        (alike_itself (λ n. n ≡ session) (state_after s (front ++ behind)) rest),
+            (alike_both (λ n. n ≡ session) s front front behind t.0 (alike_itself (λ n. n ≡ session) s front) t.3)
+            (alike_itself (λ n. n ≡ session) (state_after s (front ++ behind)) rest),
       )
 
 -- all that is said of it, over any device and with no late flush, and with the same number
@@ -251,5 +251,5 @@ has_done_as_told claims late s nexus done history is =
       },
       refl,
       subst (λ (h : List Entry). AreAlike (λ n. n ≡ length is.before) s h (((is.before ++ Attach nexus ∷ []) ++ t.0) ++ is.rest))
-      (sym is.is) t.3,
+          (sym is.is) t.3,
     )
