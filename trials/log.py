@@ -77,6 +77,24 @@ def off_by_default(folder, log):
 
 
 @case
+def wrong_words(folder, log):
+    refused = (2, "arrayd: wrong words")
+    is_so("no address", ended(["--host", "x", disk(folder)], log=log.path), refused)
+    log.find("wrong_words", what="--host")
+    is_so("a hostile word", ended(["--no\n\x1b[2J", folder + "/disk"], log=log.path), refused)
+    is_so("a variable", ended([folder + "/disk"], log=log.path, more={"ARRAYD_DEADLINE": "x"}), refused)
+    log.find("wrong_words", what="ARRAYD_DEADLINE")
+    is_so("events", log.events(), ["wrong_words"] * 3)
+
+
+@case
+def no_control_socket(folder, log):
+    is_so("something is there", ended(["--port", str(PORT), disk(folder)], log=log.path, more={"ARRAYD_CONTROL": folder + "/disk"}),
+          (1, "arrayd: cannot make the control socket"))
+    log.find("cannot_control", errno="98", error="EADDRINUSE")
+
+
+@case
 def files_that_cannot_be_used(folder, log):
     name = os.path.join(folder, 'no\n"disk"\x1b[2J')
     is_so("not there", ended([name], log=log.path), (1, "arrayd: cannot use unit 0"))
