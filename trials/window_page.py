@@ -23,7 +23,7 @@ import urllib.request
 
 from cases import is_so
 from free_port import free_port
-from initiator import Session
+from initiator import GOOD, Session
 from running import PORT, TARGET, Array, Wrong, made
 
 AT = free_port()
@@ -160,6 +160,19 @@ def numbers(page, first):
     is_so("commands then", cells(page, "unit_table", "commands"), ["18", "3"])
 
 
+def registrations(page, first):
+    """A key that a host registers, and the reservation that it then holds."""
+    is_so("none", page.value("document.getElementById('registration_count').textContent"), "(0)")
+    for end in (first.reserve_out(1, 0, new_key=0xABC), first.reserve_out(1, 1, kind=5, key=0xABC)):
+        is_so("GOOD", end.status, GOOD)
+    page.until("document.querySelectorAll('#registration_table tbody tr').length === 1")
+    page.until("document.querySelector('#registration_table td[data-key=holds]').textContent !== ''")
+    is_so("unit", cells(page, "registration_table", "unit"), ["1"])
+    is_so("who is registered", cells(page, "registration_table", "initiator"), [NAME])
+    is_so("its ISID", cells(page, "registration_table", "isid"), ["0x400001370000"])
+    is_so("its key", cells(page, "registration_table", "key"), ["0xabc"])
+
+
 def is_unharmed(page):
     """No name of a host is a part of the page."""
     is_so("title", page.value("document.title"), "arrayd")
@@ -169,10 +182,10 @@ def is_unharmed(page):
 def is_reached_by_keys(page):
     page.value("document.activeElement.blur()")
     reached = []
-    for _ in range(4):
+    for _ in range(5):
         page.key("Tab", 9)
         reached.append(page.value("document.activeElement.id || document.activeElement.getAttribute('aria-label')"))
-    is_so("by Tab", reached, ["pause", "Units", "Sessions", "Controllers"])
+    is_so("by Tab", reached, ["pause", "Units", "Sessions", "Registrations", "Controllers"])
     page.value("document.getElementById('pause').focus()")
     page.key("Enter", 13)
     is_so("pressed", page.value("document.getElementById('pause').getAttribute('aria-pressed')"), "true")
@@ -223,6 +236,7 @@ def tried(folder, to, seconds):
         try:
             page.do("Page.navigate", url=f"http://127.0.0.1:{AT}/")
             numbers(page, first)
+            registrations(page, first)
             is_unharmed(page)
             is_reached_by_keys(page)
             fits(page)
