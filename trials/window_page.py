@@ -160,17 +160,19 @@ def numbers(page, first):
     is_so("commands then", cells(page, "unit_table", "commands"), ["18", "3"])
 
 
-def registrations(page, first):
-    """A key that a host registers, and the reservation that it then holds."""
+def registrations(page, first, second):
+    """The keys that two hosts register, and the reservation that one holds."""
     is_so("none", page.value("document.getElementById('registration_count').textContent"), "(0)")
-    for end in (first.reserve_out(1, 0, new_key=0xABC), first.reserve_out(1, 1, kind=5, key=0xABC)):
+    for end in (first.reserve_out(1, 0, new_key=0xABC), second.reserve_out(1, 0, new_key=0xDEF),
+                first.reserve_out(1, 1, kind=5, key=0xABC)):
         is_so("GOOD", end.status, GOOD)
-    page.until("document.querySelectorAll('#registration_table tbody tr').length === 1")
+    page.until("document.querySelectorAll('#registration_table tbody tr').length === 2")
     page.until("document.querySelector('#registration_table td[data-key=holds]').textContent !== ''")
-    is_so("unit", cells(page, "registration_table", "unit"), ["1"])
-    is_so("who is registered", cells(page, "registration_table", "initiator"), [NAME])
-    is_so("its ISID", cells(page, "registration_table", "isid"), ["0x400001370000"])
-    is_so("its key", cells(page, "registration_table", "key"), ["0xabc"])
+    is_so("unit", cells(page, "registration_table", "unit"), ["1", "1"])
+    is_so("who is registered", cells(page, "registration_table", "initiator"), [NAME, "iqn.2000-01.test:other"])
+    is_so("its ISID", cells(page, "registration_table", "isid"), ["0x400001370000", "0x400001370001"])
+    is_so("its key", cells(page, "registration_table", "key"), ["0xabc", "0xdef"])
+    is_so("who holds nothing", cells(page, "registration_table", "holds")[1], "")
 
 
 def is_unharmed(page):
@@ -236,7 +238,7 @@ def tried(folder, to, seconds):
         try:
             page.do("Page.navigate", url=f"http://127.0.0.1:{AT}/")
             numbers(page, first)
-            registrations(page, first)
+            registrations(page, first, second)
             is_unharmed(page)
             is_reached_by_keys(page)
             fits(page)
