@@ -40,5 +40,5 @@ pub use stacks::{SmallStacks, Stacks};
 pub use target::{BeginFault, SessionTarget};
 pub use unit_session::UnitSession;
 pub use units::{LogicalUnits, Pass, Unserved};
-pub use wire::{KeptSink, KeptSource, LastSent};
+pub use wire::{KeptSource, ObservedSink};
 pub use worker::serve_session;

@@ -13,7 +13,7 @@ use crate::logged_target::Visitor;
 use crate::observer::Observer;
 use crate::stacks::{STACK, Stacks};
 use crate::units::{LogicalUnits, Pass};
-use crate::wire::{KeptSink, KeptSource, LastSent};
+use crate::wire::{KeptSource, ObservedSink};
 use crate::worker::serve_session;
 use event_log::{Event, Initiator, Log, Path, Resource, Why};
 use libc::EMFILE;
@@ -97,21 +97,24 @@ fn v4(address: io::Result<SocketAddr>) -> SocketAddrV4 {
     }
 }
 
-// Why a session ended, as the log tells it.
-fn why(end: End, visitor: &Visitor, last: LastSent) -> Why {
-    match (end, last) {
-        (End::LoggedOut, _) => Why::Logout,
-        (End::Protocol, LastSent::Reject(reason, opcode, task)) => {
-            Why::Rejected(reason, opcode, task)
+// Why a session or a connection ended, as the log tells it, or the status with which its login was refused.
+fn why(end: End, visitor: &Visitor) -> Result<Why, u16> {
+    match end {
+        End::LoginRefused(status) => Err(status),
+        End::LoggedOut => Ok(Why::Logout),
+        End::Rejected {
+            reason,
+            opcode,
+            tag,
+        } => Ok(Why::Rejected(reason, opcode, tag)),
+        End::Gap => Ok(Why::Gap),
+        End::Reinstated => Ok(Why::Replaced),
+        End::EndOfInput | End::InputFailed | End::OutputFailed if visitor.is_replaced => {
+            Ok(Why::Replaced)
         }
-        (End::Protocol, _) => Why::Gap,
-        (End::Reinstated, _) => Why::Replaced,
-        (End::EndOfInput | End::InputFailed | End::OutputFailed, _) if visitor.is_replaced => {
-            Why::Replaced
-        }
-        (End::EndOfInput, _) => Why::Closed,
-        (End::InputFailed, _) => Why::InputFailed,
-        (End::OutputFailed, _) => Why::OutputFailed,
+        End::EndOfInput => Ok(Why::Closed),
+        End::InputFailed => Ok(Why::InputFailed),
+        End::OutputFailed => Ok(Why::OutputFailed),
     }
 }
 
@@ -122,19 +125,15 @@ fn tell_end<R: Clock>(
     path: Path,
     end: End,
     visitor: &Visitor,
-    last: LastSent,
     named: Initiator<'_>,
 ) {
-    let why = why(end, visitor, last);
-    if visitor.tsih != 0 {
-        let ended = Event::SessionEnded(visitor.initiator(), path, visitor.tsih, why);
-        return log.tell(rt, &ended);
-    }
-    match last {
-        LastSent::Refusal(status) => {
-            log.tell(rt, &Event::LoginRefused(named, path, status, visitor.lacks));
+    match why(end, visitor) {
+        Err(status) => log.tell(rt, &Event::LoginRefused(named, path, status, visitor.lacks)),
+        Ok(why) if visitor.tsih == 0 => log.tell(rt, &Event::ConnectionEnded(path, why)),
+        Ok(why) => {
+            let ended = Event::SessionEnded(visitor.initiator(), path, visitor.tsih, why);
+            log.tell(rt, &ended);
         }
-        _ => log.tell(rt, &Event::ConnectionEnded(path, why)),
     }
 }
 
@@ -156,7 +155,7 @@ fn serve_as<R: Wait + Clock, U: LogicalUnits<P, H> + Drop, G: Gate + Drop, P: Pa
     let stream: &TcpStream = socket;
     let observer = Observer::new(rt, &server.log, path);
     let mut source = KeptSource::new(alloc, Watched::new(stream), &observer);
-    let mut sink = KeptSink::new(Watched::new(stream), &observer);
+    let mut sink = ObservedSink::new(Watched::new(stream), &observer);
     match serve_session::<
         R,
         U,
@@ -166,7 +165,7 @@ fn serve_as<R: Wait + Clock, U: LogicalUnits<P, H> + Drop, G: Gate + Drop, P: Pa
         P,
         H,
         KeptSource<'_, R, Watched<&TcpStream>>,
-        KeptSink<'_, R, Watched<&TcpStream>>,
+        ObservedSink<'_, R, Watched<&TcpStream>>,
     >(
         rt,
         alloc,
@@ -181,7 +180,7 @@ fn serve_as<R: Wait + Clock, U: LogicalUnits<P, H> + Drop, G: Gate + Drop, P: Pa
         Ok((end, visitor, _seen)) => {
             let (isid, name) = source.initiator();
             let named = Initiator { name, isid };
-            tell_end(rt, &server.log, path, end, &visitor, sink.last(), named);
+            tell_end(rt, &server.log, path, end, &visitor, named);
             Ok(())
         }
         Err(NoMemory) => Err(NoMemory),

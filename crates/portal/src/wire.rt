@@ -1,4 +1,4 @@
-//! What a session's bytes tell who runs the array: the Login Request that came first, and the PDU that went out last.
+//! What a session's bytes tell who runs the array: the Login Request that came first, and when bytes come and answers leave.
 ghost use Rattle.std.specs.Prelude.{◌≡◌, ◌<◌, length};
 
 use crate::observer::Observer;
@@ -91,93 +91,27 @@ fn name_in(text: &[u8]) -> &[u8] {
     &[]
 }
 
-/// A sink of which the last PDU is kept, and which tells when answers leave.
+/// A sink that tells when answers leave.
 #[derive(Drop)]
-pub struct KeptSink<'a, R: Wait + Clock, K> {
+pub struct ObservedSink<'a, R: Wait + Clock, K> {
     inner: K,
     observer: &'a Observer<'a, R>,
-    // The header segments of the last PDU, and of the PDU that it rejects, where it does.
-    last: [u8; 96],
-    length: usize,
 }
 
-/// What the last PDU of a session tells of its end.
-#[derive(Clone, Copy, PartialEq, Eq)]
-pub enum LastSent {
-    /// A Login Response with this Status-Class and Status-Detail, which are not 0 (RFC 7143, 11.13.5).
-    Refusal(u16),
-    /// A Reject: its reason, and opcode and Initiator Task Tag of what it rejects (RFC 7143, 11.17).
-    Reject(u8, u8, u32),
-    /// Another PDU, or none.
-    Other,
-}
-
-// The PDU that ends with these bytes, which are whole PDUs without digests.
-fn last_in(bytes: &[u8]) -> &[u8] {
-    let mut rest = bytes;
-    for _ in 0..bytes.len() {
-        if rest.len() < BHS {
-            break;
-        }
-        let data = u32::from_be_bytes([0, rest[5], rest[6], rest[7]]) as usize;
-        let end = BHS + (data + 3) / 4 * 4;
-        if end >= rest.len() {
-            break;
-        }
-        rest = &rest[end..];
-    }
-    rest
-}
-
-impl<'a, R: Wait + Clock, K> KeptSink<'a, R, K> {
-    /// A sink, of which the last PDU is kept where the log is on.
-    pub fn new(inner: K, observer: &'a Observer<'a, R>) -> KeptSink<'a, R, K> {
-        KeptSink {
-            inner,
-            observer,
-            last: [0; 96],
-            length: 0,
-        }
-    }
-
-    // Keeps the front of the last of these PDUs.
-    fn keep(&mut self, bytes: &[u8])
-        ensures { self.new.inner ≡ self.old.inner }
-    {
-        let last = last_in(bytes);
-        let length = last.len().min(96);
-        self.last = [0; 96];
-        self.last[..length].copy_from_slice(&last[..length]);
-        self.length = length;
-    }
-
-    /// What the last PDU tells.
-    pub fn last(&self) -> LastSent {
-        let pdu = &self.last;
-        match pdu[0] & 0x3F {
-            0x23 if pdu[36] != 0 => {
-                LastSent::Refusal((u16::from(pdu[36]) << 8) | u16::from(pdu[37]))
-            }
-            0x3F if self.length == 96 => {
-                let tag = u32::from_be_bytes([pdu[64], pdu[65], pdu[66], pdu[67]]);
-                LastSent::Reject(pdu[2], pdu[48] & 0x3F, tag)
-            }
-            _ => LastSent::Other,
-        }
+impl<'a, R: Wait + Clock, K> ObservedSink<'a, R, K> {
+    /// A sink at which somebody looks.
+    pub fn new(inner: K, observer: &'a Observer<'a, R>) -> ObservedSink<'a, R, K> {
+        ObservedSink { inner, observer }
     }
 }
 
-impl<R: Wait + Clock, K: Sink> Sink for KeptSink<'_, R, K> {
+impl<R: Wait + Clock, K: Sink> Sink for ObservedSink<'_, R, K> {
     ghost held = { λ s. K.held s.inner };
 
     ghost failures = { λ s. K.failures s.inner };
 
     fn write_whole(&mut self, bytes: &[u8]) -> Result<(), Failed> {
         self.observer.sends();
-        let end = self.inner.write_whole(bytes);
-        if self.observer.log.is_on() && end.is_ok() {
-            self.keep(bytes);
-        }
-        end
+        self.inner.write_whole(bytes)
     }
 }

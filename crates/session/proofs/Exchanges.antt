@@ -7,7 +7,7 @@ use Rattle.session_rules.specs.{Asking.Asking, Setting.Setting, Setting.setting_
 use Rattle.session_rules.specs.declared.{end.End.End, identity.Identity.Identity, login_outcome.LoginOutcome.LoginOutcome}
 use Rattle.session_rules.specs.declared.{start.Start.Start}
 use Rattle.session_rules.specs.declared.opening.Opening.{Opening, TheVariants.Login, TheVariants.FullFeature}
-use Rattle.session_rules.specs.Legal.{end_after, GoesOn, Lawful}
+use Rattle.session_rules.specs.Legal.{bhs_of, end_after, GoesOn, Lawful}
 use Rattle.session_rules.specs.LoginPhase.{LoginTurn, LoginStanding, progress_after, progress_behind, cmd_sn_in, first_cmd_sn}
 use Rattle.session_rules.specs.LoginPhase.{login_standing, login_after, IsLoginTurn, login_end, begins, IsStart}
 use Rattle.session_rules.specs.Phases.{Transcript, Exchange, of_login, exchanges, NoneEnds, NoneBegins, IsLogin, IsLawful, of_turn}
@@ -41,7 +41,7 @@ module _ {T : Type 0} {leads : T → Asking → T → Type 0} {x y : T} {held he
   })
 
   module _ {v v' : LoginStanding} {s : Counters} {p' : PhasesValue} {outcome : LoginOutcome}
-      (k : MakesLoginTurn leads v v' x y held held' before now o o' came outcome) (is : wanted ≡ login_end outcome) where
+      (k : MakesLoginTurn leads v v' x y held held' before now o o' came outcome) (is : wanted ≡ login_end (bhs_of came) outcome) where
     pub by_login : (b : Bool) → begins outcome ≡ b → NextPhase b v' (phases_of (Some v) s) p'
         → MakesExchange leads (phases_of (Some v) s) p' x y held held' before now o o' came wanted
     by_login b begin next = record {
@@ -55,7 +55,7 @@ module _ {T : Type 0} {leads : T → Asking → T → Type 0} {x y : T} {held he
       };
       led = k.led;
       queued = k.queued;
-      wanted_is = is ∙ ap login_end (sym k.outcome_is);
+      wanted_is = rw (k.came_is, k.outcome_is) is;
     }
 
     -- the session begins; while it logged in, nothing waited
@@ -163,7 +163,7 @@ module _ (units : ℕ) (me : Identity) (tag : ℕ) (c : Transcript) (v : LoginSt
 
   by_next : (p' : PhasesValue) (b : Bool) → begins l.outcome ≡ b
       → NextPhase b (login_after v came) (record { login = Some v; counters = s }) p'
-      → login_end l.outcome ≡ None → PhaseStands units me (Login tag) logged p'.login p'.counters
+      → login_end (bhs_of l.came) l.outcome ≡ None → PhaseStands units me (Login tag) logged p'.login p'.counters
   by_next p' false is next on = rw next (record {
     is_login = login_now;
     none_begins = all_more (λ (u : LoginTurn). begins u.outcome ≡ false) c.logins l k.none_begins is;

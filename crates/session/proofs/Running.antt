@@ -6,17 +6,21 @@ use Rattle.std.proofs.lemmas.{List.append-nil, List.nil_from_length, List.take-a
 use Rattle.std.proofs.lemmas.{List.Elements.filter_map-append, Grind.flat_map-append}
 use Rattle.std.proofs.KnownBytes.{Appends-nil, Consumes-trans, Consumes-kept, Consumes-nil}
 use Rattle.std.specs.Io.KnownBytes.{Keeps, Appends, Consumes, IsAtEnd}
-use Rattle.session_rules.specs.Words.{cons_option, Initiator, LogoutRequest, PduFault, BHS_LENGTH}
+use Rattle.session_rules.specs.Words.{cons_option, Initiator, Target, InitiatorHeader, LoginRequest, LogoutRequest, PduFault, BHS_LENGTH}
+use Rattle.session_rules.specs.Words.{Numbers, Progress}
+use Rattle.login.specs.{Status.code_of, declared.status.LoginStatus.LoginStatus}
 use Rattle.iscsi_pdu.specs.declared.header.Pdu.{Pdu}
 use Rattle.session_rules.specs.{Logout.closes as closes_session, Asking.Asking, Asking.served, Asking.reset, Legal.end_of_call}
-use Rattle.session_rules.specs.{Legal.end_after, LoginPhase.LoginStanding, LoginPhase.login_end}
+use Rattle.session_rules.specs.{Legal.bhs_of, Legal.end_after, Legal.IsSentFor, LoginPhase.LoginStanding, LoginPhase.login_end}
+use Rattle.session_rules.specs.LoginPhase.{LoginTurn, HasOutcome, IsLoginTurn, login_numbers, login_outs, out, refusal_of}
+use Rattle.session_rules.specs.Causes.{status_of}
 use Rattle.session_rules.specs.declared.{target.TargetAnswer.TheVariants.Gone, identity.Identity.Identity, opening.Opening.Opening}
 use Rattle.session_rules.specs.declared.{login_outcome.LoginOutcome.LoginOutcome}
 use Rattle.session_rules.specs.declared.end.End.{End, TheVariants.EndOfInput, TheVariants.InputFailed, TheVariants.OutputFailed}
-use Rattle.session_rules.specs.declared.end.End.{TheVariants.Protocol, TheVariants.Reinstated, TheVariants.LoggedOut}
-use Rattle.session_rules.specs.declared.verdict.Verdict.{Verdict, TheVariants.Accepted}
-use Rattle.session_rules.specs.Turn.{Incoming, pdu, faulty, bytes_of, Spells, Leads, IsLed}
-use Rattle.session_rules.specs.Ends.{NoneWhole, StandsBehind, EndsWith, most_bytes, EndsBy}
+use Rattle.session_rules.specs.declared.end.End.TheVariants.{Rejected, Gap, LoginRefused, Reinstated, LoggedOut}
+use Rattle.session_rules.specs.declared.verdict.Verdict.{Verdict, TheVariants.Accepted, TheVariants.Refused}
+use Rattle.session_rules.specs.Turn.{Incoming, pdu, faulty, Out, bytes_of, Spells, Leads, IsLed}
+use Rattle.session_rules.specs.Ends.{NoneWhole, StandsBehind, ToldByLoginResponse, TellsCause, EndsWith, most_bytes, EndsBy}
 use Rattle.session_rules.specs.Phases.{Transcript, Exchange, exchanges, incoming, asked, outgoing, NoneEnds, IsLawful}
 use Rattle.session_full_feature.specs.Counters.{Counters}
 use Rattle.session_stream.specs.{declared.outbox.TheConstants.ENOUGH_TO_WRITE}
@@ -26,9 +30,11 @@ use Rattle.session_stream.proofs.Queues.{took, all_out_at_last, broke}
 use Rattle.session.specs.{Front.IsWhole, Front.IsFaulty, Inbox.Filled}
 use Rattle.session.specs.Stream.{PhasesValue, ExchangeOf, MakesExchange}
 use Rattle.session.specs.Transcript.{but_last, Written, IsPassed, IsFailureOf, HasPassed}
+use Rattle.session.proofs.Facts.{made_facts}
 use Rattle.session.proofs.Exchanges.{all_more, PhaseStands, lawful_now, one_more}
 use Rattle.session_rules.specs.declared.target.ResetAnswer.TheVariants as resets
 use Rattle.session_rules.specs.declared.login_outcome.LoginOutcome.TheVariants as outcomes
+use Rattle.session_rules.specs.declared.verdict.Verdict.TheVariants as verdicts
 
 -- ---- what was read, what the target was asked, and what went out
 
@@ -82,14 +88,67 @@ turn_ends_so Accepted (pdu b (Initiator (LogoutRequest p)) d) call =
 turn_ends_so Accepted came call = ends_by_call call
 turn_ends_so v came call = tt
 
-login_ends_so : (o : LoginOutcome) → IsCalledFor (login_end o)
-login_ends_so outcomes.GoesOn = tt
-login_ends_so o = tt
+login_ends_so : (bhs : List ℕ) (o : LoginOutcome) → IsCalledFor (login_end bhs o)
+login_ends_so bhs outcomes.GoesOn = tt
+login_ends_so bhs o = tt
 
 ends_so : (login : Option LoginStanding) (s : Counters) (came : Incoming) (e : Exchange) (p' : PhasesValue)
     → ExchangeOf (record { login = login; counters = s }) came e p' → IsCalledFor e.end
 ends_so None s came e p' made = rw made.exchange_is (turn_ends_so made.turn.verdict made.turn.came made.turn.call)
-ends_so (Some v) s came e p' made = rw made.exchange_is (login_ends_so made.turn.outcome)
+ends_so (Some v) s came e p' made = rw made.exchange_is (login_ends_so (bhs_of made.turn.came) made.turn.outcome)
+
+-- ---- what goes out with it tells its cause
+
+call_tells : (call : Option Asking) (came : Incoming) (sent : List Out) → TellsCause (end_of_call call) came sent
+call_tells (Some (served unit asked bytes Gone)) came sent = tt
+call_tells (Some (served unit asked bytes answer)) came sent = tt
+call_tells (Some (reset unit resets.Gone)) came sent = tt
+call_tells (Some (reset unit answer)) came sent = tt
+call_tells call came sent = tt
+
+turn_tells : (v : Verdict) (came : Incoming) (call : Option Asking) (sent : List Out) → IsSentFor v came sent
+    → TellsCause (end_after v came call) came sent
+turn_tells Accepted (pdu b (Initiator (LogoutRequest p)) d) call sent k =
+    elim (closes_session p) as (λ closes. TellsCause (if closes then Some LoggedOut else None)
+    (pdu b (Initiator (LogoutRequest p)) d) sent) [ true ↦ tt | false ↦ tt ]
+turn_tells Accepted came call sent k = call_tells call came sent
+turn_tells verdicts.Gap came call sent k = k
+turn_tells (Refused reason) came call sent k = record { numbers = k.0; sent_is = k.1; opcode_is = refl; tag_is = refl }
+turn_tells v came call sent k = tt
+
+refusal_tells : (n : Numbers) (h : InitiatorHeader) (status : LoginStatus)
+    → ToldByLoginResponse (out (refusal_of n h status) []) (status_of (code_of status).class (code_of status).detail)
+refusal_tells n (LoginRequest p) status = record { response = _; sent_is = refl; status_is = refl }
+refusal_tells n h status = record { response = _; sent_is = refl; status_is = refl }
+
+outcome_tells : (n : Numbers) (s : Progress) (came : Incoming) (call : Option Asking) (o : LoginOutcome)
+    → HasOutcome s came call o → TellsCause (login_end (bhs_of came) o) came (login_outs n s came o)
+outcome_tells n s came call outcomes.GoesOn k = tt
+outcome_tells n s came call (outcomes.Begun tsih) k = tt
+outcome_tells n s (pdu b (Initiator (LoginRequest p)) d) call (outcomes.Refused status) k = refusal_tells n (LoginRequest p) status
+outcome_tells n s (pdu b (Initiator h) d) call (outcomes.Refused status) k = refusal_tells n h status
+outcome_tells n s (pdu b (Target h) d) call (outcomes.Refused status) k = cc
+outcome_tells n s (faulty f b) call (outcomes.Refused status) k = cc
+outcome_tells n s (pdu b (Initiator (LoginRequest p)) d) call (outcomes.Rejected reason) k =
+    record { numbers = n; sent_is = refl; opcode_is = refl; tag_is = refl }
+outcome_tells n s (pdu b (Initiator h) d) call (outcomes.Rejected reason) k =
+    record { numbers = n; sent_is = refl; opcode_is = refl; tag_is = refl }
+outcome_tells n s came call (outcomes.Rejected reason) k =
+    record { numbers = n; sent_is = refl; opcode_is = refl; tag_is = refl }
+
+login_tells : (v : LoginStanding) (l : LoginTurn) → IsLoginTurn v l
+    → TellsCause (login_end (bhs_of l.came) l.outcome) l.came l.sent
+login_tells v l k = rw k.answered (outcome_tells (login_numbers v l.came) v.progress l.came l.call l.outcome k.comes_to)
+
+tells_so : (login : Option LoginStanding) (s : Counters) (came : Incoming) (e : Exchange) (p' : PhasesValue)
+    → ExchangeOf (record { login = login; counters = s }) came e p' → TellsCause e.end e.came e.sent
+tells_so None s came e p' made =
+    let t = made.turn in
+    rw made.exchange_is (turn_tells t.verdict t.came t.call t.sent
+    (made_facts t.came t.verdict s made.made.mid p'.counters made.made.step t.call t.sent
+    (rw (← made.made.came_is) at made.made.judged) (rw (← made.made.came_is) at made.made.made)
+    (rw (← made.made.came_is) at made.made.runs)).kinds)
+tells_so (Some v) s came e p' made = rw made.exchange_is (login_tells v made.turn made.made)
 
 -- no turn calls for an end, or the last alone does
 abbrev pub HowItEnds : Option End → List Exchange → List ℕ → Type 0
@@ -97,14 +156,27 @@ HowItEnds None es rest = NoneEnds es
 HowItEnds (Some end) es rest = IsCalledFor (Some end) × EndsWith es rest (Some end)
 
 ends_more : (wanted : Option End) (es : List Exchange) (e : Exchange) (rest : List ℕ) → NoneEnds es
-    → StandsBehind e.came rest → wanted ≡ e.end → IsCalledFor e.end → HowItEnds wanted (es ++ e ∷ []) rest
-ends_more None es e rest none stands is called = all_more (λ (x : Exchange). x.end ≡ None) es e none (sym is)
-ends_more (Some end) es e rest none stands is called =
-    (subst IsCalledFor (sym is) called, record { front = es; last = e; whole = refl; goes_on = none; stands = stands; ends = sym is })
+    → StandsBehind e.came rest → wanted ≡ e.end → IsCalledFor e.end → TellsCause e.end e.came e.sent
+    → HowItEnds wanted (es ++ e ∷ []) rest
+ends_more None es e rest none stands is called told = all_more (λ (x : Exchange). x.end ≡ None) es e none (sym is)
+ends_more (Some end) es e rest none stands is called told = (
+  subst IsCalledFor (sym is) called,
+  record {
+    front = es;
+    last = e;
+    whole = refl;
+    goes_on = none;
+    stands = stands;
+    ends = sym is;
+    told = subst (λ (z : Option End). TellsCause z e.came e.sent) (sym is) told;
+  },
+)
 
 ends_by : (end : End) (es : List Exchange) (rest : List ℕ) (taken : ℕ) (at_end : Type 0) → HowItEnds (Some end) es rest
     → EndsBy es rest taken at_end end
-ends_by Protocol es rest taken at_end k = k.1
+ends_by (Rejected reason opcode tag) es rest taken at_end k = k.1
+ends_by Gap es rest taken at_end k = k.1
+ends_by (LoginRefused status) es rest taken at_end k = k.1
 ends_by Reinstated es rest taken at_end k = k.1
 ends_by LoggedOut es rest taken at_end k = k.1
 ends_by end es rest taken at_end k = absurd k.0
@@ -249,7 +321,7 @@ module _ {T : Type 0} {leads : T → Asking → T → Type 0} {units : ℕ} {me 
         es_are = more.exchanges_are ∙ ap (λ (z : List Exchange). z ++ t.exchange ∷ []) r.es_are;
         spelled = r.spelled ++ front;
         ends = ends_more wanted r.es t.exchange rest r.ends (rw more.came_is stands) t.wanted_is
-            (ends_so p.login p.counters came t.exchange p' t.made);
+            (ends_so p.login p.counters came t.exchange p' t.made) (tells_so p.login p.counters came t.exchange p' t.made);
         spells = rw (map-append, more.came_is)
             (spells_append (incoming r.es) (came ∷ []) r.spelled front r.spells spells);
         read = rw (append_assoc, ← cut) r.read;

@@ -5,7 +5,7 @@ use Rattle.session_rules.specs.Words.{ℕ, List, [], length, take, Option}
 use Rattle.session_rules.specs.{Asking.Asking, Asking.over, Turn.bytes_of, Turn.Spells, Turn.Leads, Ends.EndsBy}
 use Rattle.session_rules.specs.declared.{identity.Identity.Identity, opening.Opening.Opening}
 use Rattle.session_rules.specs.declared.end.End.{End, TheVariants.EndOfInput, TheVariants.InputFailed, TheVariants.OutputFailed}
-use Rattle.session_rules.specs.declared.end.End.{TheVariants.Protocol, TheVariants.Reinstated, TheVariants.LoggedOut}
+use Rattle.session_rules.specs.declared.end.End.TheVariants.{Rejected, Gap, LoginRefused, Reinstated, LoggedOut}
 use Rattle.session_rules.specs.Phases.{Transcript, Exchange, exchanges, incoming, asked, outgoing, IsLawful}
 use Rattle.session_stream.specs.{declared.outbox.TheConstants.ENOUGH_TO_WRITE, Source.Rises}
 
@@ -28,7 +28,9 @@ abbrev pub Written : End → Option (List ℕ) → Option (List ℕ) → List Ex
 Written EndOfInput held held' es = Appends held held' (bytes_of (outgoing es))
 Written InputFailed held held' es = Appends held held' (bytes_of (outgoing es))
 Written OutputFailed held held' es = IsCut held held' es
-Written Protocol held held' es = Appends held held' (bytes_of (outgoing es))
+Written (Rejected reason opcode tag) held held' es = Appends held held' (bytes_of (outgoing es))
+Written Gap held held' es = Appends held held' (bytes_of (outgoing es))
+Written (LoginRefused status) held held' es = Appends held held' (bytes_of (outgoing es))
 Written Reinstated held held' es = Appends held held' (bytes_of (outgoing es))
 Written LoggedOut held held' es = Appends held held' (bytes_of (outgoing es))
 

@@ -1,7 +1,8 @@
 //! A whole session without bytes: its login, and full feature phase behind it.
 ghost use Rattle.std.specs.Prelude.{◌<◌, ◌≤◌, length, vec_capacity, IfOk, Some};
-ghost use Rattle.session_rules.specs.declared.end.End.TheVariants.{Protocol};
+ghost use Rattle.session_rules.specs.Causes.{end_by_reject};
 ghost use Rattle.session_rules.specs.Turn.{pdu as came, faulty};
+ghost use Rattle.session_rules.specs.Verdict.{reason_of};
 ghost use Rattle.session.specs.Stream.{OpensWith, IsFresh, MakesExchange};
 ghost use Rattle.session_stream.specs.declared.outbox.TheConstants.{ENOUGH_TO_WRITE};
 
@@ -89,7 +90,7 @@ impl Phases {
                     self.session.begin(login.kind(), login.start());
                     self.login = None;
                 }
-                outcome.end()
+                outcome.end(bhs)
             }
         }
     }
@@ -104,7 +105,8 @@ impl Phases {
         fault: PduFault,
     )
         ensures { MakesExchange T.leads self.old self.new target.now target.now (K.held sink.old) (K.held sink.new)
-            (K.failures sink.old) (K.failures sink.new) outbox.old outbox.new (faulty fault bhs.now) (Some Protocol) }
+            (K.failures sink.old) (K.failures sink.new) outbox.old outbox.new (faulty fault bhs.now)
+            (Some (end_by_reject (reason_of fault) bhs.now)) }
     {
         match &mut self.login {
             None => fault_turn(&mut self.session, target, sink, outbox, bhs, fault),

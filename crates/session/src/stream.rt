@@ -15,7 +15,7 @@ use crate::inbox::{INBOX_CAPACITY, Inbox};
 use crate::phases::Phases;
 use iscsi_pdu::LONGEST_PDU;
 use scsi_types::NoMemory;
-use session_rules::{End, Identity, LONGEST_TEXT, Opening, Target};
+use session_rules::{End, Identity, LONGEST_TEXT, Opening, Target, reject_end, reject_reason};
 use session_stream::{Failed, Outbox, Sink, Source};
 use std::alloc::Global;
 
@@ -112,7 +112,8 @@ fn serve_turns<S: Source, K: Sink, T: Target>(
             }
             Front::Faulty { bhs, fault } => {
                 phases.fault(target, sink, outbox, bhs, fault);
-                return finish(sink, outbox, End::Protocol);
+                let end = reject_end(reject_reason(fault), bhs);
+                return finish(sink, outbox, end);
             }
             Front::Partial => {
                 outbox.flush(sink);

@@ -1,16 +1,16 @@
 -- What a turn of the session is: the step that it makes, run with the target's answer.
-use Rattle.std.proofs.Common.{◌≡◌, ◌∙◌, ℕ, List, Option, None, refl, sym, ap, subst}
+use Rattle.std.proofs.Common.{◌≡◌, ◌∙◌, ℕ, List, Option, Some, None, refl, sym, ap, subst}
 use Rattle.session_rules.specs.Words.{Header, Initiator, NopOut, ScsiCommand, DataOut, TaskManagementRequest, TextRequest, LogoutRequest}
 use Rattle.session_full_feature.specs.{Counters.Counters, MakesTurn.MakesTurn}
-use Rattle.session_full_feature.specs.Step.{Step, says, rejects, serves, resets, telling, Runs}
+use Rattle.session_full_feature.specs.Step.{Step, says, rejects, serves, resets, end_of, telling, Runs}
 use Rattle.session_full_feature.specs.Machine.{OnOpened, calls, sends_first_r2t, turns_away, OnFed, fills, sends_next_r2t, calls_now}
 use Rattle.session_full_feature.specs.Machine.{OnManagedBy, OnTaken, OnFullPdu, OnUnaccepted, OnIncoming}
 use Rattle.session_stream.specs.{declared.pdus.Pdus.Pdus, Outbox.OutboxValue, Outbox.IsQueued, Pdus.sent_by}
-use Rattle.session_rules.specs.{Asking.Asking, Verdict.IsJudged, Legal.end_after, Legal.end_of_call, Legal.bhs_of}
+use Rattle.session_rules.specs.{Asking.Asking, Causes.end_by_reject, Verdict.IsJudged, Legal.end_after, Legal.end_of_call, Legal.bhs_of}
 use Rattle.session_rules.specs.declared.end.End.{End}
 use Rattle.session_rules.specs.declared.task_function.Management.{Management, TheVariants.Respond, TheVariants.Reset}
 use Rattle.session_rules.specs.declared.verdict.Verdict.{Verdict}
-use Rattle.session_rules.specs.declared.verdict.Verdict.TheVariants.{Accepted, Full}
+use Rattle.session_rules.specs.declared.verdict.Verdict.TheVariants.{Accepted, Full, Refused}
 use Rattle.session_rules.specs.Turn.{Incoming, pdu, Out, bytes_of, IsLed}
 use Rattle.session_stream.specs.declared.pdus.Pdus.TheVariants as pdus
 
@@ -30,75 +30,74 @@ outs_so b x end wanted outs s e = (ran b _ (says outs wanted) s None (sent_by b 
 
 -- ---- the end of a turn is that of its step, or of its call
 
-abbrev pub end_with : Step → Option Asking → Option End
-end_with (says outs end) call = end
-end_with (rejects r end) call = end
-end_with (serves p need unit asked bytes) call = end_of_call call
-end_with (resets p unit) call = end_of_call call
+abbrev pub end_with : List ℕ → Step → Option Asking → Option End
+end_with b (says outs end) call = end_of b (says outs end)
+end_with b (rejects r) call = end_of b (rejects r)
+end_with b (serves p need unit asked bytes) call = end_of_call call
+end_with b (resets p unit) call = end_of_call call
 
-pub end_said : (x : Pdus) (end : Option End) → end ≡ end_with (telling x end) None
-end_said (pdus.Reject r) end = refl
-end_said x end = refl
-
-pub end_so : (x : Pdus) (end wanted : Option End) (outs : List Out) → telling x end ≡ says outs wanted → end ≡ wanted
-end_so x end wanted outs e = end_said x end ∙ ap (λ (z : Step). end_with z None) e
+pub end_said : (b : List ℕ) (x : Pdus) (end : Option End) → end_of b (telling x end) ≡ end_with b (telling x end) None
+end_said b (pdus.Reject r) end = refl
+end_said b x end = refl
 
 module _ (b : List ℕ) (s mid s' : Counters) (call : Option Asking) (sent : List Out) where
-  plain : (step wanted : Step) → step ≡ wanted → end_with wanted None ≡ None → Runs b step mid call sent s'
-      → end_with step call ≡ end_of_call call
-  plain (says outs end) wanted e none k = ap (λ (z : Step). end_with z None) e ∙ none ∙ ap end_of_call (sym k.call_is)
-  plain (rejects r end) wanted e none k = ap (λ (z : Step). end_with z None) e ∙ none ∙ ap end_of_call (sym k.call_is)
+  plain : (step wanted : Step) → step ≡ wanted → end_with b wanted None ≡ None → Runs b step mid call sent s'
+      → end_with b step call ≡ end_of_call call
+  plain (says outs end) wanted e none k = ap (λ (z : Step). end_with b z None) e ∙ none ∙ ap end_of_call (sym k.call_is)
+  plain (rejects r) wanted e none k = ap (λ (z : Step). end_with b z None) e ∙ none ∙ ap end_of_call (sym k.call_is)
   plain step wanted e none k = refl
 
   module _ (step : Step) (runs : Runs b step mid call sent s') where
-    opened_ends : (p : _) (asked : _) (d : List ℕ) → OnOpened s p asked d step mid → end_with step call ≡ end_of_call call
+    opened_ends : (p : _) (asked : _) (d : List ℕ) → OnOpened s p asked d step mid → end_with b step call ≡ end_of_call call
     opened_ends p asked d (calls h k next) = plain step _ k.step_is refl runs
     opened_ends p asked d (sends_first_r2t h next e k) = plain step _ e refl runs
     opened_ends p asked d (turns_away h k) = plain step _ k.step_is refl runs
 
     fed_ends : (front : _) (this : _) (back : _) (asked : _) (d : List ℕ) (end : ℕ)
-        → OnFed s front this back asked d end step mid → end_with step call ≡ end_of_call call
+        → OnFed s front this back asked d end step mid → end_with b step call ≡ end_of_call call
     fed_ends front this back asked d end (fills h k) = plain step _ k.step_is refl runs
     fed_ends front this back asked d end (sends_next_r2t all short next e k) = plain step _ e refl runs
     fed_ends front this back asked d end (calls_now h k next) = plain step _ k.step_is refl runs
 
     managed_ends : (m : Management) (c : Counters) (p : _) → OnManagedBy m c p step mid
-        → end_with step call ≡ end_of_call call
+        → end_with b step call ≡ end_of_call call
     managed_ends (Respond response) c p k = plain step _ k.step_is refl runs
     managed_ends (Reset unit) c p k = plain step _ k.step_is refl runs
 
     taken_ends : (h : Header) (d : List ℕ) → OnTaken s h d step mid
-        → end_with step call ≡ end_after Accepted (pdu b h d) call
+        → end_with b step call ≡ end_after Accepted (pdu b h d) call
     taken_ends (Initiator (NopOut p)) d k = plain step _ k.step_is refl runs
     taken_ends (Initiator (ScsiCommand p)) d k = opened_ends p k.asked d k.by
     taken_ends (Initiator (DataOut x)) d k = fed_ends k.front k.this k.back k.asked d _ k.by
     taken_ends (Initiator (TaskManagementRequest p)) d k = managed_ends k.management _ p k.managed
     taken_ends (Initiator (TextRequest p)) d k = plain step _ k.step_is refl runs
-    taken_ends (Initiator (LogoutRequest p)) d k = ap (λ (z : Step). end_with z call) k.step_is
+    taken_ends (Initiator (LogoutRequest p)) d k = ap (λ (z : Step). end_with b z call) k.step_is
     taken_ends h d k = absurd k
 
-    full_ends : (h : Header) → OnFullPdu s h step mid → end_with step call ≡ None
-    full_ends (Initiator (ScsiCommand p)) k = ap (λ (z : Step). end_with z call) k.sends.step_is
+    full_ends : (h : Header) → OnFullPdu s h step mid → end_with b step call ≡ None
+    full_ends (Initiator (ScsiCommand p)) k = ap (λ (z : Step). end_with b z call) k.sends.step_is
     full_ends h k = absurd k
 
-    unaccepted_ends : (v : Verdict) (came : Incoming) → OnUnaccepted v s step mid
-        → end_with step call ≡ end_after v came call
-    unaccepted_ends Accepted came k = absurd k
-    unaccepted_ends Full came k = absurd k
-    unaccepted_ends v came k = ap (λ (z : Step). end_with z call) k.step_is
+    unaccepted_ends : (v : Verdict) (came : Incoming) → bhs_of came ≡ b → OnUnaccepted v s step mid
+        → end_with b step call ≡ end_after v came call
+    unaccepted_ends Accepted came e k = absurd k
+    unaccepted_ends Full came e k = absurd k
+    unaccepted_ends (Refused reason) came e k = ap (λ (z : Step). end_with b z call) k.step_is
+        ∙ ap (λ (z : List ℕ). Some (end_by_reject reason z)) (sym e)
+    unaccepted_ends v came e k = ap (λ (z : Step). end_with b z call) k.step_is
 
     ends : (came : Incoming) (v : Verdict) → bhs_of came ≡ b → OnIncoming v s came step mid
-        → end_with step call ≡ end_after v came call
+        → end_with b step call ≡ end_after v came call
     ends (pdu bhs h d) Accepted e k = taken_ends h d k
     ends (pdu bhs h d) Full e k = full_ends h k
-    ends came v e k = unaccepted_ends v came k
+    ends came v e k = unaccepted_ends v came e k
 
 -- the turn
 pub turn_of : {T : Type 0} (leads : T → Asking → T → Type 0) (s mid s' : Counters) (x x' : T)
     (held held' : Option (List ℕ)) (before now : ℕ) (o o' : OutboxValue) (came : Incoming) (v : Verdict) (step : Step)
     (call : Option Asking) (sent : List Out) (wanted : Option End)
     → IsJudged s.setting s.standing came v → OnIncoming v s came step mid → Runs (bhs_of came) step mid call sent s'
-    → IsLed leads call x x' → IsQueued held held' before now o o' (bytes_of sent) → wanted ≡ end_with step call
+    → IsLed leads call x x' → IsQueued held held' before now o o' (bytes_of sent) → wanted ≡ end_with (bhs_of came) step call
     → MakesTurn leads s s' x x' held held' before now o o' came wanted
 turn_of leads s mid s' x x' held held' before now o o' came v step call sent wanted judged made runs led queued is = record {
   turn = record { came = came; verdict = v; call = call; sent = sent };

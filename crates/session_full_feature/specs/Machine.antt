@@ -7,7 +7,8 @@ use Rattle.session_rules.specs.{Turn.Incoming, Turn.pdu, Turn.faulty, Turn.Out, 
 use Rattle.session_rules.specs.{Collecting.HasToCollect, Collecting.IsNext, Collecting.Continues, Standing.numbers_for}
 use Rattle.session_rules.specs.{Verdict.IsJudgedPdu, Transfer.data_for, Nop.nop_answer, Text.text_outs, Text.IsMadeOf}
 use Rattle.session_rules.specs.{Legal.end_by, Legal.end_by_reset, Logout.closes, Logout.logout_answer, Setting.Setting}
-use Rattle.session_rules.specs.declared.end.End.{End, TheVariants.Protocol, TheVariants.LoggedOut}
+use Rattle.session_rules.specs.declared.end.End.{End, TheVariants.LoggedOut}
+use Rattle.session_rules.specs.declared.end.End.TheVariants as ends
 use Rattle.session_rules.specs.declared.target.{TargetAnswer.TargetAnswer, ResetAnswer.ResetAnswer}
 use Rattle.session_rules.specs.declared.task_function.Management.{Management, TheVariants.Respond, TheVariants.Reset}
 use Rattle.session_rules.specs.declared.verdict.Verdict.{Verdict}
@@ -35,8 +36,7 @@ Answers s outs end step s' = Makes (says outs end) (after_answer outs s) step s'
 
 -- a Reject for this reason goes out, which takes a status number, and the session ends
 abbrev pub OnRefusal : Counters → ℕ → Step → Counters → Type 0
-OnRefusal s reason step s' =
-    Makes (rejects (record { reason = reason; numbers = next_numbers s }) (Some Protocol)) (after_status s) step s'
+OnRefusal s reason step s' = Makes (rejects (record { reason = reason; numbers = next_numbers s })) (after_status s) step s'
 
 -- a command is called, for what its CDB asks, where its data so far are these
 pub record Calls (p : CommandHeader) (asked : Result Command CdbFault) (bytes : List ℕ) (step : Step) : Type 0 where
@@ -172,7 +172,7 @@ abbrev pub OnUnaccepted : Verdict → Counters → Step → Counters → Type 0
 OnUnaccepted Accepted s step s' = ⊥
 OnUnaccepted Full s step s' = ⊥
 OnUnaccepted Ignored s step s' = Makes (says [] None) s step s'
-OnUnaccepted Gap s step s' = Makes (says [] (Some Protocol)) s step s'
+OnUnaccepted Gap s step s' = Makes (says [] (Some ends.Gap)) s step s'
 OnUnaccepted (Refused reason) s step s' = OnRefusal s reason step s'
 
 -- what a verdict makes of a PDU, and of a fault

@@ -1,9 +1,9 @@
 ghost use Rattle.std.specs.Prelude.{◌≡◌};
-ghost use Rattle.session_full_feature.specs.Step.{call_data};
+ghost use Rattle.session_full_feature.specs.Step.{call_data, end_of, said};
 
-use iscsi_pdu::{ScsiCommand, TaskManagementRequest};
+use iscsi_pdu::{BHS_LENGTH, ScsiCommand, TaskManagementRequest};
 use scsi_types::Asked;
-use session_rules::End;
+use session_rules::{End, reject_end};
 use session_stream::Pdus;
 
 /// What a PDU calls for.
@@ -20,8 +20,20 @@ pub enum Actions<'a> {
 pub struct Sending<'a> {
     /// PDUs to write first.
     pub pdus: Pdus<'a>,
-    /// Nothing is read any more once these PDUs are written.
+    /// How the session ends once these PDUs are written, if it does. A Reject ends it whatever stands here.
     pub end: Option<End>,
+}
+
+impl Sending<'_> {
+    /// The end that this calls for, where the PDU that came has this basic header segment.
+    pub fn end_behind(&self, bhs: &[u8; BHS_LENGTH]) -> Option<End>
+        ensures { result ≡ end_of bhs.now (said self.now) }
+    {
+        match self.pdus {
+            Pdus::Reject(reject) => Some(reject_end(reject.reason, bhs)),
+            Pdus::Nothing | Pdus::R2t(_) | Pdus::Response(_) | Pdus::Answer { .. } => self.end,
+        }
+    }
 }
 
 /// A call of the target.

@@ -247,7 +247,7 @@ impl Session {
             Verdict::Ignored => Some(silence()),
             Verdict::Gap => Some(Sending {
                 pdus: Pdus::Nothing,
-                end: Some(End::Protocol),
+                end: Some(End::Gap),
             }),
             Verdict::Refused(reason) => Some(self.reject(reason)),
         }
@@ -440,7 +440,7 @@ impl Session {
         self.stat_sn = self.stat_sn.wrapping_add(1);
         Sending {
             pdus: Pdus::Reject(Reject { reason, numbers }),
-            end: Some(End::Protocol),
+            end: None,
         }
     }
 

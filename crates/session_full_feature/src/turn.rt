@@ -1,7 +1,8 @@
 //! A turn of full feature phase: what came, what the target answers, and what goes out for it.
 ghost use Rattle.std.specs.Prelude.{◌<◌, ◌≤◌, length, vec_capacity, Some};
-ghost use Rattle.session_rules.specs.declared.end.End.TheVariants.{Protocol};
+ghost use Rattle.session_rules.specs.Causes.{end_by_reject};
 ghost use Rattle.session_rules.specs.Turn.{pdu as came, faulty};
+ghost use Rattle.session_rules.specs.Verdict.{reason_of};
 ghost use Rattle.session_full_feature.specs.MakesTurn.{MakesTurn};
 ghost use Rattle.session_stream.specs.declared.outbox.TheConstants.{ENOUGH_TO_WRITE};
 
@@ -39,7 +40,7 @@ pub fn feature_turn<K: Sink, T: Target>(
     match actions {
         Actions::Send(sending) => {
             outbox.fill(sink, bhs, &sending.pdus);
-            sending.end
+            sending.end_behind(bhs)
         }
         Actions::Call(call) => match call {
             Call::Serve(call) => {
@@ -47,13 +48,13 @@ pub fn feature_turn<K: Sink, T: Target>(
                 let sending = session.on_answer(&call.task, &answer);
                 outbox.fill(sink, bhs, &sending.pdus);
                 session.keep(call.bytes);
-                sending.end
+                sending.end_behind(bhs)
             }
             Call::Reset(call) => {
                 let answer = target.reset(call.unit);
                 let sending = session.on_reset(call.request, answer);
                 outbox.fill(sink, bhs, &sending.pdus);
-                sending.end
+                sending.end_behind(bhs)
             }
         },
     }
@@ -69,7 +70,8 @@ pub fn fault_turn<K: Sink, T: Target>(
     fault: PduFault,
 )
     ensures { MakesTurn T.leads session.old session.new target.now target.now (K.held sink.old) (K.held sink.new)
-        (K.failures sink.old) (K.failures sink.new) outbox.old outbox.new (faulty fault bhs.now) (Some Protocol) }
+        (K.failures sink.old) (K.failures sink.new) outbox.old outbox.new (faulty fault bhs.now)
+        (Some (end_by_reject (reason_of fault) bhs.now)) }
 {
     let sending = session.on_fault(fault);
     outbox.fill(sink, bhs, &sending.pdus);

@@ -5,7 +5,7 @@ use Rattle.session_rules.specs.Words.{ℕ, List, [], length, Option, Some, None,
 use Rattle.session_rules.specs.Words.{AllByRecursion, Means, Command, CdbFault, Sense, max_data_segment_length, Initiator, Target, NopOut}
 use Rattle.session_rules.specs.Words.{ScsiCommand, TaskManagementRequest, LoginRequest, TextRequest, DataOut, LogoutRequest, TargetHeader}
 use Rattle.session_rules.specs.Words.{NopIn, ScsiResponse, TaskManagementResponse, LoginResponse, TextResponse, DataIn, LogoutResponse, R2t}
-use Rattle.session_rules.specs.Words.{Reject, R2tHeader, Numbers, End, Protocol, Reinstated, LoggedOut, Lengths, TargetAnswer, Replied}
+use Rattle.session_rules.specs.Words.{Reject, R2tHeader, Numbers, End, Reinstated, LoggedOut, Lengths, TargetAnswer, Replied}
 use Rattle.session_rules.specs.Words.{Outside, Busy, Gone, ResetAnswer, Verdict, Accepted, Full, Ignored, Gap, Refused}
 use Rattle.session_rules.specs.{Setting.Setting, Window.wrap, Window.numbers_of, Tasks.tasks, Tasks.r2ts_of, Collecting.IsRightTask}
 use Rattle.session_rules.specs.{Standing.Standing, Standing.standing, Standing.last_in_window, Verdict.IsJudged}
@@ -14,6 +14,8 @@ use Rattle.session_rules.specs.{Logout.closes, Requests.IsRequestAnswered, Askin
 use Rattle.session_rules.specs.{Asking.reset, Asking.over, Turn.Incoming, Turn.pdu, Turn.faulty, Turn.Out, Turn.Turn, Turn.sent}
 use Rattle.session_rules.specs.Answered.{Answered, answered_in, IsCalled, outcome_data, needed}
 use Rattle.session_rules.specs.Response.{responses, sense_part, IsAnsweredAs, IsResidual, IsToldAs}
+use Rattle.session_rules.specs.Causes.{end_by_reject}
+use Rattle.session_rules.specs.declared.end.End.TheVariants as ends
 use Rattle.session_rules.specs.declared.target.ResetAnswer.TheVariants as resets
 
 -- the fact holds at each place of a list, of what stands before it and there
@@ -175,8 +177,8 @@ abbrev pub end_after : Verdict → Incoming → Option Asking → Option End
 end_after Accepted came call = end_of_accepted came call
 end_after Full came call = None
 end_after Ignored came call = None
-end_after Gap came call = Some Protocol
-end_after (Refused reason) came call = Some Protocol
+end_after Gap came call = Some ends.Gap
+end_after (Refused reason) came call = Some (end_by_reject reason (bhs_of came))
 
 -- no turn calls for an end
 abbrev pub GoesOn : List Turn → Type 0

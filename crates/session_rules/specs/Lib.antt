@@ -1,5 +1,6 @@
 pub mod Answered
 pub mod Asking
+pub mod Causes
 pub mod Codes
 pub mod Collecting
 pub mod DataIn

@@ -5,13 +5,13 @@ use Rattle.session_rules.specs.Words.{ℕ, true, false, Bool, List, [], length, 
 use Rattle.session_rules.specs.Words.{unwrap_or, Port, Initiator, Target, InitiatorHeader, NopOut, ScsiCommand, TaskManagementRequest}
 use Rattle.session_rules.specs.Words.{LoginRequest, TextRequest, DataOut, LogoutRequest, TargetHeader, LoginResponse, Reject, LoginHeader}
 use Rattle.session_rules.specs.Words.{Numbers, pairs, Progress, beginning, Ending, Finished, Stopped, answer_to, after, kind_in, LoginFlags}
-use Rattle.session_rules.specs.Words.{InvalidDuringLogin, End, Protocol, Lengths, LoginOutcome, Start, BeginAnswer}
+use Rattle.session_rules.specs.Words.{InvalidDuringLogin, End, Lengths, LoginOutcome, Start, BeginAnswer}
 use Rattle.byteorder.specs.Endian.{big_number}
 use Rattle.login.specs.{Status.code_of, Request.Answered, Request.initiator_of, Parameters.parameters_of}
 use Rattle.login.specs.declared.parameters.Parameters.{Parameters}
 use Rattle.login.specs.declared.status.LoginStatus.{LoginStatus}
 use Rattle.login.specs.declared.status.LoginStatus.TheVariants.{TooManyConnections, SessionDoesNotExist, OutOfResources}
-use Rattle.session_rules.specs.{Codes.command_not_supported, Asking.Asking, Asking.began, Asking.lives, Handle.HasHandle, Window.wrap}
+use Rattle.session_rules.specs.{Causes.end_by_reject, Causes.end_by_refusal, Codes.command_not_supported, Asking.Asking, Asking.began, Asking.lives, Handle.HasHandle, Window.wrap}
 use Rattle.session_rules.specs.{Standing.numbers_for, Verdict.reason_of, Turn.Incoming, Turn.pdu, Turn.faulty, Turn.Out}
 use Rattle.session_rules.specs.declared.login_outcome.LoginOutcome.TheVariants.{GoesOn, Begun, Refused, Rejected}
 use Rattle.login.specs.declared.status.Stop.TheVariants as stops
@@ -195,12 +195,12 @@ pub record IsLoginTurn (v : LoginStanding) (l : LoginTurn) : Type 0 where
   pub comes_to : HasOutcome v.progress l.came l.call l.outcome
   pub answered : l.sent ≡ login_outs (login_numbers v l.came) v.progress l.came l.outcome
 
--- what is refused or rejected ends the session
-abbrev pub login_end : LoginOutcome → Option End
-login_end GoesOn = None
-login_end (Begun tsih) = None
-login_end (Refused status) = Some Protocol
-login_end (Rejected reason) = Some Protocol
+-- what is refused or rejected ends the session; what came has this basic header segment
+abbrev pub login_end : List ℕ → LoginOutcome → Option End
+login_end bhs GoesOn = None
+login_end bhs (Begun tsih) = None
+login_end bhs (Refused status) = Some (end_by_refusal status)
+login_end bhs (Rejected reason) = Some (end_by_reject reason bhs)
 
 abbrev pub begins : LoginOutcome → Bool
 begins GoesOn = false

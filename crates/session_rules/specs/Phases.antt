@@ -3,7 +3,7 @@ use Rattle.std.specs.Prelude.{◌≡◌, ◌⊎◌, ◌∷◌, ◌++◌}
 use Rattle.session_rules.specs.Words.{ℕ, true, false, List, [], map, Option, None, filter_map, flat_map, AllByRecursion}
 use Rattle.session_rules.specs.Words.{kind_in, SessionType, End, Identity, Opening, Login, FullFeature, Start}
 use Rattle.session_rules.specs.{Asking.Asking, Setting.setting_of, Turn.Incoming, Turn.Out, Turn.Turn}
-use Rattle.session_rules.specs.Legal.{AtEachOf, end_after, Lawful}
+use Rattle.session_rules.specs.Legal.{AtEachOf, bhs_of, end_after, Lawful}
 use Rattle.session_rules.specs.LoginPhase.{LoginTurn, login_standing, IsLoginTurn, login_end, begins, IsStart}
 
 -- the turns of the login, and those of full feature phase behind them
@@ -19,7 +19,7 @@ pub record Exchange : Type 0 where
   pub end : Option End
 
 abbrev pub of_login : LoginTurn → Exchange
-of_login l = record { came = l.came; call = l.call; sent = l.sent; end = login_end l.outcome }
+of_login l = record { came = l.came; call = l.call; sent = l.sent; end = login_end (bhs_of l.came) l.outcome }
 
 abbrev pub of_turn : Turn → Exchange
 of_turn t = record { came = t.came; call = t.call; sent = t.sent; end = end_after t.verdict t.came t.call }

@@ -29,7 +29,7 @@ pub use Rattle.session_rules.specs.declared.{end.End.End, identity.Identity.Iden
 pub use Rattle.session_rules.specs.declared.{start.Start.Start, verdict.Verdict.Verdict, login_outcome.LoginOutcome.LoginOutcome}
 pub use Rattle.session_rules.specs.declared.target.{TargetAnswer.TargetAnswer, BeginAnswer.BeginAnswer, ResetAnswer.ResetAnswer}
 pub use Rattle.session_rules.specs.declared.task_function.{Management.Management, TaskFunction.TaskFunction}
-pub use Rattle.session_rules.specs.declared.end.End.TheVariants.{Protocol, EndOfInput, InputFailed, OutputFailed, Reinstated, LoggedOut}
+pub use Rattle.session_rules.specs.declared.end.End.TheVariants.{EndOfInput, InputFailed, OutputFailed, Reinstated, LoggedOut}
 pub use Rattle.session_rules.specs.declared.opening.Opening.TheVariants.{Login, FullFeature}
 pub use Rattle.session_rules.specs.declared.target.TargetAnswer.TheVariants.{Replied, Outside, Busy, Gone}
 pub use Rattle.session_rules.specs.declared.task_function.Management.TheVariants.{Respond, Reset}

@@ -1,7 +1,8 @@
 ghost use Rattle.std.specs.Prelude.{◌≡◌, Option};
 ghost use Rattle.session_rules.specs.LoginPhase.{login_end, begins};
 
-use crate::end::End;
+use crate::end::{End, refusal_end, reject_end};
+use iscsi_pdu::BHS_LENGTH;
 use login::LoginStatus;
 
 /// What comes to a PDU during the login, with what the target answers.
@@ -25,13 +26,14 @@ impl LoginOutcome {
         matches!(self, LoginOutcome::Begun(_))
     }
 
-    /// The end that it calls for.
-    pub fn end(self) -> Option<End>
-        ensures { result ≡ login_end self }
+    /// The end that it calls for, where what came has this basic header segment.
+    pub fn end(self, bhs: &[u8; BHS_LENGTH]) -> Option<End>
+        ensures { result ≡ login_end bhs.now self }
     {
         match self {
             LoginOutcome::GoesOn | LoginOutcome::Begun(_) => None,
-            LoginOutcome::Refused(_) | LoginOutcome::Rejected(_) => Some(End::Protocol),
+            LoginOutcome::Refused(status) => Some(refusal_end(status)),
+            LoginOutcome::Rejected(reason) => Some(reject_end(reason, bhs)),
         }
     }
 }

@@ -1,7 +1,7 @@
 //! How the answers leave: those of commands that came together in one write, many and long ones in parts.
 use crate::ends::must;
 use crate::sessions::row::Row;
-use crate::sessions::run::{Ran, serve, spells};
+use crate::sessions::run::{Ran, ends_as, serve};
 use std::alloc::Global;
 use std::io::ErrorKind;
 use std::process::Abort;
@@ -139,7 +139,7 @@ fn check(rt: &impl Abort, alloc: Global, batch: &Batch) {
     let row = Row::read(rt, alloc, "batches", batch.row);
     let ran = served(rt, alloc, &row, batch);
     expect_writes(rt, &ran, batch, row.name);
-    let is_right = spells(rt, alloc, &ran.end, row.end);
+    let is_right = ends_as(rt, alloc, ran.end, row.end);
     must(rt, is_right, row.name, &ran.end);
 }
 

@@ -10,7 +10,7 @@ the offset 8196, where the R2T is at 8192
 > TEST_UNIT_READY 19:09 24:00000002
 < R2T 42:20
 < REJECT 2:04 31:02 rejected DATA_OUT 6:0004 40:00002004
-end Protocol
+end Rejected 04 05 00000001
 
 the offset 8188, where the R2T is at 8192
 > WRITE 6:2000 20:00002200 40:11 pattern 8192
@@ -18,7 +18,7 @@ the offset 8188, where the R2T is at 8192
 > TEST_UNIT_READY 19:09 24:00000002
 < R2T 42:20
 < REJECT 2:04 31:02 rejected DATA_OUT 6:0004 40:00001FFC
-end Protocol
+end Rejected 04 05 00000001
 
 the Target Transfer Tag of no R2T
 > WRITE 6:2000 20:00002200 40:11 pattern 8192
@@ -26,7 +26,7 @@ the Target Transfer Tag of no R2T
 > TEST_UNIT_READY 19:09 24:00000002
 < R2T 42:20
 < REJECT 2:04 31:02 rejected DATA_OUT 23:01 40:00002000
-end Protocol
+end Rejected 04 05 00000001
 
 the Target Transfer Tag that asks for nothing
 > WRITE 6:2000 20:00002200 40:11 pattern 8192
@@ -34,7 +34,7 @@ the Target Transfer Tag that asks for nothing
 > TEST_UNIT_READY 19:09 24:00000002
 < R2T 42:20
 < REJECT 2:04 31:02 rejected DATA_OUT 20:FFFFFFFF 40:00002000
-end Protocol
+end Rejected 04 05 00000001
 
 the DataSN 1 before 0
 > WRITE 6:2000 20:00002200 40:11 pattern 8192
@@ -42,7 +42,7 @@ the DataSN 1 before 0
 > TEST_UNIT_READY 19:09 24:00000002
 < R2T 42:20
 < REJECT 2:04 31:02 rejected DATA_OUT 36:0000000100002000
-end Protocol
+end Rejected 04 05 00000001
 
 a byte past the range
 > WRITE 6:2000 20:00002200 40:11 pattern 8192
@@ -50,7 +50,7 @@ a byte past the range
 > TEST_UNIT_READY 19:09 24:00000002
 < R2T 42:20
 < REJECT 2:04 31:02 rejected DATA_OUT 6:0201 40:00002000
-end Protocol
+end Rejected 04 05 00000001
 
 a Data-Out that comes twice
 > WRITE 6:2000 20:00002200 40:11 pattern 8192
@@ -59,7 +59,7 @@ a Data-Out that comes twice
 > TEST_UNIT_READY 19:09 24:00000002
 < R2T 42:20
 < REJECT 2:04 31:02 rejected DATA_OUT 6:0100 40:00002000
-end Protocol
+end Rejected 04 05 00000001
 
 a byte past the range, in the second Data-Out
 > WRITE 6:2000 20:00002200 40:11 pattern 8192
@@ -68,7 +68,7 @@ a byte past the range, in the second Data-Out
 > TEST_UNIT_READY 19:09 24:00000002
 < R2T 42:20
 < REJECT 2:04 31:02 rejected DATA_OUT 6:0101 36:0000000100002100
-end Protocol
+end Rejected 04 05 00000001
 
 the tag of a write that waits, in a second command
 > WRITE 6:2000 20:00002200 40:11 pattern 8192
@@ -76,7 +76,7 @@ the tag of a write that waits, in a second command
 > TEST_UNIT_READY 19:09 24:00000002
 < R2T 42:20
 < REJECT 2:04 31:02 rejected TEST_UNIT_READY 27:02
-end Protocol
+end Rejected 04 01 00000001
 
 the tag of a write that waits, in an immediate command
 > WRITE 6:2000 20:00002200 40:11 pattern 8192
@@ -84,7 +84,7 @@ the tag of a write that waits, in an immediate command
 > TEST_UNIT_READY 19:09 24:00000002
 < R2T 42:20
 < REJECT 2:04 31:02 rejected TEST_UNIT_READY 0:41
-end Protocol
+end Rejected 04 01 00000001
 
 the tag of a write that waits, in a NOP-Out
 > WRITE 6:2000 20:00002200 40:11 pattern 8192
@@ -92,7 +92,7 @@ the tag of a write that waits, in a NOP-Out
 > TEST_UNIT_READY 19:09 24:00000002
 < R2T 42:20
 < REJECT 2:04 31:02 rejected NOP_OUT 27:02
-end Protocol
+end Rejected 04 00 00000001
 
 the tag of a write that waits, in an immediate NOP-Out
 > WRITE 6:2000 20:00002200 40:11 pattern 8192
@@ -100,7 +100,7 @@ the tag of a write that waits, in an immediate NOP-Out
 > TEST_UNIT_READY 19:09 24:00000002
 < R2T 42:20
 < REJECT 2:04 31:02 rejected NOP_OUT 0:40
-end Protocol
+end Rejected 04 00 00000001
 
 the tag of a write that waits, in a Text Request that would be answered
 > WRITE 6:2000 20:00002200 40:11 pattern 8192
@@ -108,7 +108,7 @@ the tag of a write that waits, in a Text Request that would be answered
 > TEST_UNIT_READY 19:09 24:00000002
 < R2T 42:20
 < REJECT 2:04 31:02 rejected TEXT_REQUEST 6:000D 27:02
-end Protocol
+end Rejected 04 04 00000001
 
 the tag of a write that waits, in an ABORT TASK of that write
 > WRITE 6:2000 20:00002200 40:11 pattern 8192
@@ -116,7 +116,7 @@ the tag of a write that waits, in an ABORT TASK of that write
 > TEST_UNIT_READY 19:09 24:00000002
 < R2T 42:20
 < REJECT 2:04 31:02 rejected TASK_REQUEST 0:4281 23:01
-end Protocol
+end Rejected 04 02 00000001
 
 the tag of a write that waits, in a Logout
 > WRITE 6:2000 20:00002200 40:11 pattern 8192
@@ -124,6 +124,6 @@ the tag of a write that waits, in a Logout
 > TEST_UNIT_READY 19:09 24:00000002
 < R2T 42:20
 < REJECT 2:04 31:02 rejected LOGOUT 27:02
-end Protocol
+end Rejected 04 06 00000001
 "#
 }

@@ -63,7 +63,7 @@ begin refused
 > TEXT_REQUEST 7:10 "SendTargets=All\0"
 < LOGIN_REFUSED 36:0302
 asked begin iqn.2000-01.test:a 400001370000 Discovery
-end Protocol
+end LoginRefused 0302
 
 SendTargets=All in a normal session
 login 1
@@ -87,7 +87,7 @@ login 1
 < LOGGED_IN 7:1F 24:00000002 "MaxRecvDataSegmentLength=65536\0"
 < REJECT 2:04 24:00000003 rejected TEXT_REQUEST 7:4E
 asked begin iqn.2000-01.test:a 400001370000 Discovery
-end Protocol
+end Rejected 04 04 00000001
 
 a SCSI Command is rejected
 login 1
@@ -97,7 +97,7 @@ login 1
 < LOGGED_IN 7:1F "MaxRecvDataSegmentLength=65536\0"
 < REJECT 2:04 24:00000002 rejected TEST_UNIT_READY
 asked begin iqn.2000-01.test:a 400001370000 Discovery
-end Protocol
+end Rejected 04 01 00000001
 
 a write is rejected, behind SendTargets
 login 1
@@ -108,7 +108,7 @@ login 1
 < TEXT_RESPONSE 7:60 24:00000002 THE_TARGET
 < REJECT 2:04 24:000000030000000200000021 rejected WRITE 24:00000002
 asked begin iqn.2000-01.test:a 400001370000 Discovery
-end Protocol
+end Rejected 04 01 00000001
 
 a task management request is rejected
 login 1
@@ -118,7 +118,7 @@ login 1
 < LOGGED_IN 7:1F "MaxRecvDataSegmentLength=65536\0"
 < REJECT 2:04 24:00000002 rejected TEST_UNIT_READY 0:0285
 asked begin iqn.2000-01.test:a 400001370000 Discovery
-end Protocol
+end Rejected 04 02 00000001
 
 another Login Request is rejected
 login 1
@@ -127,6 +127,6 @@ login 1
 < LOGGED_IN 7:1F "MaxRecvDataSegmentLength=65536\0"
 < REJECT 2:04 24:00000002 rejected LOGIN 7:37
 asked begin iqn.2000-01.test:a 400001370000 Discovery
-end Protocol
+end Rejected 04 03 00000001
 "#
 }

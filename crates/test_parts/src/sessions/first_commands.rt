@@ -63,7 +63,7 @@ login 1
 > TEST_UNIT_READY
 < LOGGED_IN 7:36 WELCOME
 asked begin iqn.2000-01.test:a 400001370000 Normal
-end Protocol
+end Gap
 
 another Login Request is rejected, as anything a session has not
 login 1
@@ -73,7 +73,7 @@ login 1
 < LOGGED_IN 7:36 WELCOME
 < REJECT 2:04 24:00000002 rejected LOGIN 7:56
 asked begin iqn.2000-01.test:a 400001370000 Normal
-end Protocol
+end Rejected 04 03 00000001
 
 also behind a command, and with the TSIH of the session
 login 1
@@ -86,6 +86,6 @@ login 1
 < REJECT 2:04 24:000000030000000200000021 rejected LOGIN 7:56 14:0001 24:00000002
 asked begin iqn.2000-01.test:a 400001370000 Normal
 asked 0 Ok(TestUnitReady)
-end Protocol
+end Rejected 04 03 00000001
 "#
 }

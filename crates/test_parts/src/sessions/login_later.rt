@@ -8,7 +8,7 @@ login 1
 > LOGIN 7:56 HOST_A
 < LOGGED_IN 1:00 7:17 14:0000 "TargetPortalGroupTag=1\0"
 < LOGIN_REFUSED 24:00000002
-end Protocol
+end LoginRefused 0200
 
 stage 0, where stage 1 is next
 login 1
@@ -17,7 +17,7 @@ login 1
 > LOGIN 7:56 HOST_A
 < LOGGED_IN 1:81 7:17 14:0000 "TargetPortalGroupTag=1\0"
 < LOGIN_REFUSED 1:00 24:00000002
-end Protocol
+end LoginRefused 0200
 
 stage 3, where stage 1 is next
 login 1
@@ -26,7 +26,7 @@ login 1
 > LOGIN 7:56 HOST_A
 < LOGGED_IN 1:81 7:17 14:0000 "TargetPortalGroupTag=1\0"
 < LOGIN_REFUSED 1:0C 24:00000002
-end Protocol
+end LoginRefused 0200
 
 T with C
 login 1
@@ -35,7 +35,7 @@ login 1
 > LOGIN 7:56 HOST_A
 < LOGGED_IN 1:00 7:17 14:0000 "TargetPortalGroupTag=1\0"
 < LOGIN_REFUSED 1:00 24:00000002
-end Protocol
+end LoginRefused 0200
 
 from stage 1 to stage 1
 login 1
@@ -44,7 +44,7 @@ login 1
 > LOGIN 7:56 HOST_A
 < LOGGED_IN 1:81 7:17 14:0000 "TargetPortalGroupTag=1\0"
 < LOGIN_REFUSED 24:00000002
-end Protocol
+end LoginRefused 0200
 "#
 }
 
@@ -57,7 +57,7 @@ login 1
 > LOGIN 7:56 HOST_A
 < LOGGED_IN 1:81 7:17 14:0000 "TargetPortalGroupTag=1\0"
 < LOGIN_REFUSED 24:00000002
-end Protocol
+end LoginRefused 0200
 
 a last pair without its zero byte
 login 1
@@ -66,7 +66,7 @@ login 1
 > LOGIN 7:56 HOST_A
 < LOGGED_IN 1:81 7:17 14:0000 "TargetPortalGroupTag=1\0"
 < LOGIN_REFUSED 24:00000002
-end Protocol
+end LoginRefused 0200
 
 a key of an earlier request
 login 1
@@ -75,7 +75,7 @@ login 1
 > LOGIN 7:56 HOST_A
 < LOGGED_IN 1:00 7:28 14:0000 "TargetPortalGroupTag=1\0ImmediateData=No\0"
 < LOGIN_REFUSED 1:00 24:00000002
-end Protocol
+end LoginRefused 0200
 
 a key twice
 login 1
@@ -84,7 +84,7 @@ login 1
 > LOGIN 7:56 HOST_A
 < LOGGED_IN 1:81 7:17 14:0000 "TargetPortalGroupTag=1\0"
 < LOGIN_REFUSED 24:00000002
-end Protocol
+end LoginRefused 0200
 
 AuthMethod without None
 login 1
@@ -93,7 +93,7 @@ login 1
 > LOGIN 7:56 HOST_A
 < LOGGED_IN 1:00 7:17 14:0000 "TargetPortalGroupTag=1\0"
 < LOGIN_REFUSED 1:00 24:00000002 37:01
-end Protocol
+end LoginRefused 0201
 "#
 }
 
@@ -119,7 +119,7 @@ login 1
   "k51=NotUnderstood\0k52=NotUnderstood\0k53=NotUnderstood\0k54=NotUnderstood\0k55=NotUnderstood\0k56=NotUnderstood\0"
   "k57=NotUnderstood\0k58=NotUnderstood\0k59=NotUnderstood\0k60=NotUnderstood\0k61=NotUnderstood\0"
 < LOGIN_REFUSED 1:00 24:00000002
-end Protocol
+end LoginRefused 0200
 
 64 pairs in a run with C, and one more: they are counted at once
 login 1
@@ -128,7 +128,7 @@ login 1
 > LOGIN 7:56 HOST_A
 < LOGGED_IN 1:04 14:0000
 < LOGIN_REFUSED 24:00000002
-end Protocol
+end LoginRefused 0200
 
 in a run with C the limit is met at once
 login 1
@@ -137,7 +137,7 @@ login 1
 > LOGIN 7:56 HOST_A
 < LOGGED_IN 1:00 14:0000
 < LOGIN_REFUSED 1:00 24:00000002
-end Protocol
+end LoginRefused 0200
 
 what a run with C comes to is looked at behind it
 login 1
@@ -146,7 +146,7 @@ login 1
 > LOGIN 7:56 HOST_A
 < LOGGED_IN 1:04 14:0000
 < LOGIN_REFUSED 24:00000002 37:03
-end Protocol
+end LoginRefused 0203
 "#
 }
 
@@ -159,7 +159,7 @@ login 1
 > LOGIN 7:56 HOST_A
 < LOGGED_IN 1:04 14:0000
 < LOGIN_REFUSED 1:00 24:00000002
-end Protocol
+end LoginRefused 0200
 
 a run with C that names a session
 login 1
@@ -169,7 +169,7 @@ login 1
 < LOGGED_IN 1:04 14:0000
 < LOGIN_REFUSED 14:0009 24:00000002 37:0A
 asked lives 9 iqn.2000-01.test:a 400001370000
-end Protocol
+end LoginRefused 020A
 
 the target begins no session: the text of the last request is not answered
 login 1
@@ -180,6 +180,6 @@ begin refused
 < LOGGED_IN 1:81 7:17 14:0000 "TargetPortalGroupTag=1\0"
 < LOGIN_REFUSED 24:00000002 36:0302
 asked begin iqn.2000-01.test:a 400001370000 Normal
-end Protocol
+end LoginRefused 0302
 "#
 }

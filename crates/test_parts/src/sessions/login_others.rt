@@ -9,63 +9,63 @@ each-place
 > NOP_OUT 16:0A0B0C0D
 > LOGIN 7:56 HOST_A
 < NOT_IN_LOGIN 16:0A0B0C0D
-end Protocol
+end LoginRefused 020B
 
 a SCSI Command
 login 1
 > TEST_UNIT_READY 16:0A0B0C0D
 > LOGIN 7:56 HOST_A
 < NOT_IN_LOGIN 16:0A0B0C0D
-end Protocol
+end LoginRefused 020B
 
 a write with its data
 login 1
 > WRITE 6:0200 16:0A0B0C0D pattern 512
 > LOGIN 7:56 HOST_A
 < NOT_IN_LOGIN 16:0A0B0C0D
-end Protocol
+end LoginRefused 020B
 
 a task management request
 login 1
 > TASK_REQUEST 1:85 16:0A0B0C0D 20:FFFFFFFF
 > LOGIN 7:56 HOST_A
 < NOT_IN_LOGIN 16:0A0B0C0D
-end Protocol
+end LoginRefused 020B
 
 a Text Request
 login 1
 > TEXT_REQUEST 7:10 16:0A0B0C0D "SendTargets=All\0"
 > LOGIN 7:56 HOST_A
 < NOT_IN_LOGIN 16:0A0B0C0D
-end Protocol
+end LoginRefused 020B
 
 a Data-Out
 login 1
 > DATA_OUT 6:0200 16:0A0B0C0D pattern 512
 > LOGIN 7:56 HOST_A
 < NOT_IN_LOGIN 16:0A0B0C0D
-end Protocol
+end LoginRefused 020B
 
 a Logout
 login 1
 > LOGOUT 16:0A0B0C0D
 > LOGIN 7:56 HOST_A
 < NOT_IN_LOGIN 16:0A0B0C0D
-end Protocol
+end LoginRefused 020B
 
 a NOP-Out of the reserved tag, in place of an answer
 login 1
 > NOP_OUT 0:40 16:FFFFFFFF
 > LOGIN 7:56 HOST_A
 < NOT_IN_LOGIN 16:FFFFFFFF
-end Protocol
+end LoginRefused 020B
 
 a command with a CmdSN: ExpCmdSN is 0 all the same
 login 1
 > TEST_UNIT_READY 16:0A0B0C0D 24:0000004D
 > LOGIN 7:56 HOST_A
 < NOT_IN_LOGIN 16:0A0B0C0D
-end Protocol
+end LoginRefused 020B
 "#
 }
 
@@ -80,7 +80,7 @@ each-place
 > LOGIN 7:56 HOST_A
 < LOGGED_IN 1:81 7:17 14:0000 "TargetPortalGroupTag=1\0"
 < NOT_IN_LOGIN 16:0A0B0C0D 24:000000020000000100000020
-end Protocol
+end LoginRefused 020B
 
 a SCSI Command
 login 1
@@ -89,7 +89,7 @@ login 1
 > LOGIN 7:56 HOST_A
 < LOGGED_IN 1:81 7:17 14:0000 "TargetPortalGroupTag=1\0"
 < NOT_IN_LOGIN 16:0A0B0C0D 24:000000020000000100000020
-end Protocol
+end LoginRefused 020B
 
 a write with its data
 login 1
@@ -98,7 +98,7 @@ login 1
 > LOGIN 7:56 HOST_A
 < LOGGED_IN 1:81 7:17 14:0000 "TargetPortalGroupTag=1\0"
 < NOT_IN_LOGIN 16:0A0B0C0D 24:000000020000000100000020
-end Protocol
+end LoginRefused 020B
 
 a task management request
 login 1
@@ -107,7 +107,7 @@ login 1
 > LOGIN 7:56 HOST_A
 < LOGGED_IN 1:81 7:17 14:0000 "TargetPortalGroupTag=1\0"
 < NOT_IN_LOGIN 16:0A0B0C0D 24:000000020000000100000020
-end Protocol
+end LoginRefused 020B
 
 a Text Request
 login 1
@@ -116,7 +116,7 @@ login 1
 > LOGIN 7:56 HOST_A
 < LOGGED_IN 1:81 7:17 14:0000 "TargetPortalGroupTag=1\0"
 < NOT_IN_LOGIN 16:0A0B0C0D 24:000000020000000100000020
-end Protocol
+end LoginRefused 020B
 
 a Data-Out
 login 1
@@ -125,7 +125,7 @@ login 1
 > LOGIN 7:56 HOST_A
 < LOGGED_IN 1:81 7:17 14:0000 "TargetPortalGroupTag=1\0"
 < NOT_IN_LOGIN 16:0A0B0C0D 24:000000020000000100000020
-end Protocol
+end LoginRefused 020B
 
 a Logout
 login 1
@@ -134,7 +134,7 @@ login 1
 > LOGIN 7:56 HOST_A
 < LOGGED_IN 1:81 7:17 14:0000 "TargetPortalGroupTag=1\0"
 < NOT_IN_LOGIN 16:0A0B0C0D 24:000000020000000100000020
-end Protocol
+end LoginRefused 020B
 
 the CmdSN is that of the Login Request
 login 1
@@ -143,7 +143,7 @@ login 1
 > LOGIN 7:56 HOST_A
 < LOGGED_IN 1:81 7:17 14:0000 24:00000001FFFFFFFE0000001D "TargetPortalGroupTag=1\0"
 < NOT_IN_LOGIN 16:0A0B0C0D 24:00000002FFFFFFFE0000001D
-end Protocol
+end LoginRefused 020B
 
 in the middle of a text
 login 1
@@ -152,6 +152,6 @@ login 1
 > LOGIN 7:56 HOST_A
 < LOGGED_IN 1:04 14:0000
 < NOT_IN_LOGIN 16:0A0B0C0D 24:000000020000000100000020
-end Protocol
+end LoginRefused 020B
 "#
 }

@@ -23,7 +23,7 @@ login 1
 < LOGGED_IN 7:47 WELCOME "ImmediateData=No\0"
 < REJECT 2:04 24:00000002 rejected WRITE 6:0200
 asked begin iqn.2000-01.test:a 400001370000 Normal
-end Protocol
+end Rejected 04 01 00000001
 
 ImmediateData=No: all data comes by R2T
 login 1
@@ -57,6 +57,6 @@ login 1
 < LOGGED_IN 7:4B WELCOME "FirstBurstLength=512\0"
 < REJECT 2:04 24:00000002 rejected WRITE 6:0204 20:00000600 32:2A0000000005000003
 asked begin iqn.2000-01.test:a 400001370000 Normal
-end Protocol
+end Rejected 04 01 00000001
 "#
 }

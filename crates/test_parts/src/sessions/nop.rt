@@ -44,6 +44,6 @@ asked 0 Ok(TestUnitReady)
 inside the window, but not the next, it leaves a gap
 > NOP_OUT 24:00000002
 > TEST_UNIT_READY
-end Protocol
+end Gap
 "
 }

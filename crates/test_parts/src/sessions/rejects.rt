@@ -6,85 +6,85 @@ an opcode that no PDU has
 > TEST_UNIT_READY 0:07
 > TEST_UNIT_READY
 < REJECT 2:05 rejected TEST_UNIT_READY 0:07
-end Protocol
+end Rejected 05 07 00000001
 
 the opcode 07h, and 47 zeros behind it
 > TEST_UNIT_READY 0:0700 16:00000000000000000000000000000000
 < REJECT 2:05 rejected TEST_UNIT_READY 0:0700 16:00000000000000000000000000000000
-end Protocol
+end Rejected 05 07 00000000
 
 a Login request, behind the login
 > TEST_UNIT_READY 0:4387
 > TEST_UNIT_READY
 < REJECT 2:04 rejected TEST_UNIT_READY 0:4387
-end Protocol
+end Rejected 04 03 00000001
 
 a PDU of a target
 > GOOD
 > TEST_UNIT_READY
 < REJECT 2:05 rejected GOOD
-end Protocol
+end Rejected 05 21 00000001
 
 a NOP-In, which is a target's
 > NOP_IN
 > TEST_UNIT_READY
 < REJECT 2:05 rejected NOP_IN
-end Protocol
+end Rejected 05 20 00000001
 
 R and W
 > TEST_UNIT_READY 1:E1
 > TEST_UNIT_READY
 < REJECT 2:09 rejected TEST_UNIT_READY 1:E1
-end Protocol
+end Rejected 09 01 00000001
 
 without F
 > TEST_UNIT_READY 1:01
 > TEST_UNIT_READY
 < REJECT 2:09 rejected TEST_UNIT_READY 1:01
-end Protocol
+end Rejected 09 01 00000001
 
 R without F
 > TEST_UNIT_READY 1:41
 > TEST_UNIT_READY
 < REJECT 2:09 rejected TEST_UNIT_READY 1:41
-end Protocol
+end Rejected 09 01 00000001
 
 an additional header segment
 > TEST_UNIT_READY 4:01
 > TEST_UNIT_READY
 < REJECT 2:09 rejected TEST_UNIT_READY 4:01
-end Protocol
+end Rejected 09 01 00000001
 
 a data segment of 65537 bytes
 > TEST_UNIT_READY 5:010001
 > TEST_UNIT_READY
 < REJECT 2:09 rejected TEST_UNIT_READY 5:010001
-end Protocol
+end Rejected 09 01 00000001
 
 the reserved tag
 > TEST_UNIT_READY 16:FFFFFFFF
 > TEST_UNIT_READY
 < REJECT 2:04 rejected TEST_UNIT_READY 16:FFFFFFFF
-end Protocol
+end Rejected 04 01 FFFFFFFF
 
 more immediate data than is expected
 > TEST_UNIT_READY 1:A1 6:0204 20:00000200 32:2A0000000005000001 pattern 516
 > TEST_UNIT_READY
 < REJECT 2:04 rejected TEST_UNIT_READY 1:A1 6:0204 20:00000200 32:2A0000000005000001
-end Protocol
+end Rejected 04 01 00000001
 
 more immediate data than FirstBurstLength
 FirstBurstLength 1023
 > TEST_UNIT_READY 1:A1 6:0400 20:00000400 32:2A0000000005000002 pattern 1024
 > TEST_UNIT_READY
 < REJECT 2:04 rejected TEST_UNIT_READY 1:A1 6:0400 20:00000400 32:2A0000000005000002
-end Protocol
+end Rejected 04 01 00000001
 
 immediate data where ImmediateData is No
 ImmediateData No
 > TEST_UNIT_READY 1:A1 6:0400 20:00000400 32:2A0000000005000002 pattern 1024
 > TEST_UNIT_READY
 < REJECT 2:04 rejected TEST_UNIT_READY 1:A1 6:0400 20:00000400 32:2A0000000005000002
-end Protocol
+end Rejected 04 01 00000001
 "
 }

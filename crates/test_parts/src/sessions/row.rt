@@ -36,7 +36,8 @@
 //!   TSIH lives; `asked reset 0`, to reset this unit; `asked 0 Ok(TestUnitReady)`, to serve this command on this unit, or
 //!   on none (`-`), as `Debug` of `Asked` spells it.
 //! - `given PARTS`: what bytes it is given with the commands, else none.
-//! - `end Protocol`: how the session ends (`End`), else `EndOfInput`.
+//! - `end LoggedOut`: how the session ends (`End`), else `EndOfInput`. `end Rejected 04 01 0000000A` has the reason of the Reject,
+//!   and opcode and Initiator Task Tag of what is rejected; `end LoginRefused 0207` has Status-Class and Status-Detail.
 //! - Of a session over the unit of `--once`: `fails 2`: its device fails after so many calls; `lands 2`: from the first call on,
 //!   which, as a write, lands so many blocks of its run; `written 10 5A`: afterwards this block is of this byte; all
 //!   others are of zeros. `all-blocks`: a row that is not the same over a few blocks as over all. `ends`: what comes also

@@ -173,7 +173,7 @@ pub fn run_part(
 ) {
     let front = row.input.get(..came).expect(rt, "so many bytes come");
     let ran = serve(rt, alloc, front, reads, writes, row);
-    if !spells(rt, alloc, &ran.end, wanted.end) {
+    if !ends_as(rt, alloc, ran.end, wanted.end) {
         tell(rt, row, (came, reads, writes), "how it ended", &ran);
     }
     if let Some(what) = differs(&ran, row, wanted) {
@@ -214,6 +214,20 @@ fn begin_alike(lines: &[String], want: &[&str]) -> bool {
         }
     }
     true
+}
+
+/// Whether a row tells this end so: the numbers of a cause stand behind its name, in hexadecimal as the standard has them.
+pub fn ends_as(rt: &impl Abort, alloc: Global, end: End, text: &str) -> bool {
+    let told = match end {
+        End::Rejected {
+            reason,
+            opcode,
+            tag,
+        } => format!(in alloc; "Rejected {reason:02X} {opcode:02X} {tag:08X}"),
+        End::LoginRefused(status) => format!(in alloc; "LoginRefused {status:04X}"),
+        _ => return spells(rt, alloc, &end, text),
+    };
+    told.expect(rt, "memory").as_str() == text
 }
 
 /// Whether `Debug` spells it so.

@@ -53,7 +53,7 @@ an opcode that there is not, in place of a Login Request
 login 1
 > LOGIN 0:07
 < REJECT 2:05 24:00000001000000000000001F rejected LOGIN 0:07
-end Protocol
+end Rejected 05 07 00000001
 "#
 }
 

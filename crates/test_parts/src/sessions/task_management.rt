@@ -95,7 +95,7 @@ asked 0 Ok(TestUnitReady)
 
 inside the window, but not the next, it leaves a gap
 > TASK_REQUEST 1:85 24:00000002
-end Protocol
+end Gap
 "
 }
 

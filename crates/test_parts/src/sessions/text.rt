@@ -46,7 +46,7 @@ asked 0 Ok(TestUnitReady)
 
 inside the window, but not the next, it leaves a gap, whatever it has
 > TEXT_REQUEST 1:40 24:00000002
-end Protocol
+end Gap
 
 a command in a discovery session, outside the window
 discovery
@@ -72,74 +72,74 @@ without F
 > TEXT_REQUEST 1:00 6:0000
 > TEXT_REQUEST 24:00000002
 < REJECT 2:04 rejected TEXT_REQUEST 1:00 6:0000
-end Protocol
+end Rejected 04 04 00000001
 
 with C
 discovery
 > TEXT_REQUEST 1:C0 6:0010 "SendTargets=All\0"
 > TEXT_REQUEST 24:00000002
 < REJECT 2:04 rejected TEXT_REQUEST 1:C0 6:0010
-end Protocol
+end Rejected 04 04 00000001
 
 with a Target Transfer Tag
 > TEXT_REQUEST 20:00000001 6:0000
 > TEXT_REQUEST 24:00000002
 < REJECT 2:04 rejected TEXT_REQUEST 20:00000001 6:0000
-end Protocol
+end Rejected 04 04 00000001
 
 a pair without its zero byte
 > TEXT_REQUEST 6:000F "SendTargets=All"
 > TEXT_REQUEST 24:00000002
 < REJECT 2:04 rejected TEXT_REQUEST 6:000F
-end Protocol
+end Rejected 04 04 00000001
 
 a pair without =
 > TEXT_REQUEST 6:000C "SendTargets\0"
 > TEXT_REQUEST 24:00000002
 < REJECT 2:04 rejected TEXT_REQUEST 6:000C
-end Protocol
+end Rejected 04 04 00000001
 
 an empty key
 > TEXT_REQUEST 6:0005 "=All\0"
 > TEXT_REQUEST 24:00000002
 < REJECT 2:04 rejected TEXT_REQUEST 6:0005
-end Protocol
+end Rejected 04 04 00000001
 
 an empty pair
 > TEXT_REQUEST 6:0001 "\0"
 > TEXT_REQUEST 24:00000002
 < REJECT 2:04 rejected TEXT_REQUEST 6:0001
-end Protocol
+end Rejected 04 04 00000001
 
 a command in a discovery session
 discovery
 > TEST_UNIT_READY
 < REJECT 2:04 rejected TEST_UNIT_READY
-end Protocol
+end Rejected 04 01 00000001
 
 task management in a discovery session
 discovery
 > TEST_UNIT_READY 0:0285
 < REJECT 2:04 rejected TEST_UNIT_READY 0:0285
-end Protocol
+end Rejected 04 02 00000001
 
 65 pairs
 > TEXT_REQUEST 6:00C3 65*"a=\0"
 > TEXT_REQUEST 24:00000002
 < REJECT 2:04 rejected TEXT_REQUEST 6:00C3
-end Protocol
+end Rejected 04 04 00000001
 
 an answer of 8216 bytes, where the initiator takes 8192
 portals 3
 > TEXT_REQUEST 6:02A4 52*"SendTargets=\0"
 < REJECT 2:04 rejected TEXT_REQUEST 6:02A4
-end Protocol
+end Rejected 04 04 00000001
 
 an answer of 8216 bytes, where the initiator takes 8215
 MaxRecvDataSegmentLength 8215
 portals 3
 > TEXT_REQUEST 6:02A4 52*"SendTargets=\0"
 < REJECT 2:04 rejected TEXT_REQUEST 6:02A4
-end Protocol
+end Rejected 04 04 00000001
 "#
 }

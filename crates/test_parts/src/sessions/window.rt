@@ -14,15 +14,15 @@ CmdSN FFFFFFFFh is behind the window
 
 CmdSN 2 leaves a gap
 > TEST_UNIT_READY 24:00000002
-end Protocol
+end Gap
 
 CmdSN 3 leaves a gap
 > TEST_UNIT_READY 24:00000003
-end Protocol
+end Gap
 
 CmdSN 32, the last of the window, leaves a gap
 > TEST_UNIT_READY 24:00000020
-end Protocol
+end Gap
 
 CmdSN 33 is ahead of the window
 > TEST_UNIT_READY 24:00000021

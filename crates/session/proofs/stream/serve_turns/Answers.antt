@@ -1,4 +1,5 @@
-use Rattle.std.proofs.Common.{◌∙◌, ◌+◌, ℕ, List, length, arith, ap, sym, refl}
+use Rattle.std.proofs.Common.{◌∙◌, ◌+◌, ℕ, List, Some, length, arith, ap, sym, refl}
+use Rattle.session_rules.specs.{Causes.end_by_reject, declared.end.End.End}
 use Rattle.session_stream.specs.Outbox.{OutboxValue}
 use Rattle.session.proofs.Exchanges.{stands_opened, fresh_more}
 use Rattle.session.proofs.Running.{starts, pdu_came, fault_came, turn_ends, sink_failed, flushed, more_came, input_ended}
@@ -26,7 +27,10 @@ pub returns-in-Faulty : goal.returns-in-Faulty
 returns-in-Faulty g c units me opening k =
     let i = c.loop-reads.invariant in
     turn_ends (fault_came (i.running units me opening k) i.serves i.few c.bytes.ensures c.in-Faulty.ensures
-    c.fault.ensures) _ _ _ _ _ _ refl i.source_served c.finish-in-Faulty.ensures
+    c.fault.ensures) _ _ _ _ _ _
+    (ap (λ (z : End). Some z) (sym (c.reject_end-end.ensures
+    ∙ ap (λ (z : ℕ). end_by_reject z c.in-Faulty.bhs.now) c.reject_reason.ensures)))
+    i.source_served c.finish-in-Faulty.ensures
 
 pub returns-then-has_failed : goal.returns-then-has_failed
 returns-then-has_failed g c units me opening k =

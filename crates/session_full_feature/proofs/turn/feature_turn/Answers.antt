@@ -1,8 +1,8 @@
 use Rattle.std.proofs.Common.{ℕ, List, Some, None, refl, ap, subst, ◌∙◌}
 use Rattle.session_full_feature.specs.declared.actions.Actions.TheVariants.{Send, Call}
 use Rattle.session_full_feature.specs.declared.actions.Call.TheVariants.{Serve, Reset}
-use Rattle.session_full_feature.specs.Step.{call_data, step_of}
-use Rattle.session_full_feature.proofs.Turns.{turn_of, outs_so, end_so, run_said, end_said}
+use Rattle.session_full_feature.specs.Step.{call_data, end_of, step_of}
+use Rattle.session_full_feature.proofs.Turns.{turn_of, outs_so, run_said, end_said}
 use Rattle.session_rules.specs.{Asking.served, Asking.reset, Turn.pdu}
 use Rattle.session_full_feature.proofs.turn.feature_turn.Goals as goal
 
@@ -11,8 +11,9 @@ returns-in-Send-clause-turn g c =
     let x = c.in-Send.sending in
     let on = rw c.in-Send.is at c.on_pdu-actions.ensures.on in
     turn_of g.T.Target.leads _ _ _ _ _ _ _ _ _ _ _ (pdu c.args.bhs.now c.args.pdu.now.header c.args.pdu.now.data.now)
-    on.verdict (step_of (Send x)) None _ x.end on.judged on.made
-    (run_said c.args.bhs.now x.pdus x.end _) refl c.fill.ensures.queued (end_said x.pdus x.end)
+    on.verdict (step_of (Send x)) None _ _ on.judged on.made
+    (run_said c.args.bhs.now x.pdus x.end _) refl c.fill.ensures.queued
+    (c.end_behind.ensures ∙ end_said c.args.bhs.now x.pdus x.end)
 
 pub returns-in-Serve-clause-turn : goal.returns-in-Serve-clause-turn
 returns-in-Serve-clause-turn g c =
@@ -22,7 +23,7 @@ returns-in-Serve-clause-turn g c =
     let on = rw (c.in-Call.is ∙ ap Call c.in-Serve.is) at c.on_pdu-actions.ensures.on in
     turn_of g.T.Target.leads _ _ _ _ _ _ _ _ _ _ _ (pdu c.args.bhs.now c.args.pdu.now.header c.args.pdu.now.data.now)
     on.verdict (step_of (Call (Serve call))) (Some (served call.unit call.asked (call_data call.bytes) c.serve-answer.result))
-    _ x.end on.judged on.made (
+    _ _ on.judged on.made (
       c.serve-answer.result,
       record {
         call_is = refl;
@@ -32,7 +33,7 @@ returns-in-Serve-clause-turn g c =
     )
     (subst (λ (b : List ℕ). g.T.Target.leads c.args.target.now
     (served call.unit call.asked b c.serve-answer.result) c.serve-answer.new.self) c.bytes.ensures c.serve-answer.ensures)
-    c.fill-in-Serve.ensures.queued (end_so x.pdus x.end _ _ k.step_is)
+    c.fill-in-Serve.ensures.queued (c.end_behind-in-Serve.ensures ∙ ap (end_of c.args.bhs.now) k.step_is)
 
 pub returns-in-Reset-clause-turn : goal.returns-in-Reset-clause-turn
 returns-in-Reset-clause-turn g c =
@@ -41,11 +42,12 @@ returns-in-Reset-clause-turn g c =
     let k = c.on_reset-sending.ensures.on in
     let on = rw (c.in-Call.is ∙ ap Call c.in-Reset.is) at c.on_pdu-actions.ensures.on in
     turn_of g.T.Target.leads _ _ _ _ _ _ _ _ _ _ _ (pdu c.args.bhs.now c.args.pdu.now.header c.args.pdu.now.data.now)
-    on.verdict (step_of (Call (Reset call))) (Some (reset call.unit c.reset-answer.result)) _ x.end on.judged on.made (
+    on.verdict (step_of (Call (Reset call))) (Some (reset call.unit c.reset-answer.result)) _ _ on.judged on.made (
       c.reset-answer.result,
       record {
         call_is = refl;
         sent_is = outs_so c.args.bhs.now x.pdus x.end _ _ c.on_pdu-actions.new.self k.step_is;
         next_is = k.next_is;
       },
-    ) c.reset-answer.ensures c.fill-in-Reset.ensures.queued (end_so x.pdus x.end _ _ k.step_is)
+    ) c.reset-answer.ensures c.fill-in-Reset.ensures.queued
+    (c.end_behind-in-Reset.ensures ∙ ap (end_of c.args.bhs.now) k.step_is)
