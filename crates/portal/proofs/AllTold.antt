@@ -18,7 +18,7 @@ use Rattle.portal.specs.Entries.{Done, replied, was_reset, AreAlike, AreEntries,
 use Rattle.portal.proofs.Apart.{one_session}
 use Rattle.portal.proofs.AsTold.{alike_both, alike_itself, alike_leads, has_done_as_told, legal_back, legal_both, legal_front}
 use Rattle.portal.proofs.Chains.{itself, one_more}
-use Rattle.portal.proofs.Settling.{all_weaker, reply_at_end, told_at_end}
+use Rattle.late_flushes.proofs.FlushLaws.{all_weaker, reply_at_end, told_at_end}
 
 -- ---- histories that are alike
 

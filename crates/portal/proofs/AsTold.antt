@@ -14,7 +14,7 @@ use Rattle.unit_entries.specs.Histories.{IsHistory, IsToldBehind, is_own}
 use Rattle.portal.specs.Units.{Claims, any_device}
 use Rattle.portal.specs.Late.{Late, never}
 use Rattle.portal.specs.Entries.{Done, replied, was_reset, AreAlike, AreEntries, HasDone, IsEntry, IsLate, IsNextDone}
-use Rattle.portal.proofs.Settling.{all_weaker, reply_at_end, told_at_end, weaker}
+use Rattle.late_flushes.proofs.FlushLaws.{all_weaker, reply_at_end, told_at_end, weaker}
 
 -- ---- histories
 
@@ -132,11 +132,11 @@ module _ (claims : Claims) (late : Late) (s : UnitState) (session : ℕ) where
         leads = leads_on h k (Command id serial by asked bytes choice) (Command id serial by asked bytes choice) same refl;
       })
       (λ (is_late : IsLate claims late s h id serial by asked bytes choice told reply). record {
-        it = Command id serial by told bytes is_late.end;
+        it = Command id serial by told bytes is_late.stands.end;
         own = own;
-        entry = (is.0, inl (refl, told_behind false s h k (Command id serial by told bytes is_late.end) reply same is_late.told));
-        possible = subst (λ (x : UnitState). IsPossible false x (Command id serial by told bytes is_late.end)) (sym same) is_late.possible;
-        leads = leads_on h k (Command id serial by asked bytes choice) (Command id serial by told bytes is_late.end) same is_late.same;
+        entry = (is.0, inl (refl, told_behind false s h k (Command id serial by told bytes is_late.stands.end) reply same is_late.stands.answered));
+        possible = subst (λ (x : UnitState). IsPossible false x (Command id serial by told bytes is_late.stands.end)) (sym same) is_late.stands.possible;
+        leads = leads_on h k (Command id serial by asked bytes choice) (Command id serial by told bytes is_late.stands.end) same is_late.stands.same;
       }) is.1
 
   said : (h k : List Entry) (done : List Done) (behind rest : List Entry) → state_after s k ≡ state_after s h

@@ -21,12 +21,13 @@ use Rattle.unit_lock.specs.declared.machine.Refused.TheVariants as refusals
 use Rattle.unit_control.specs.Entry.{Entry, Command}
 use Rattle.unit_entries.specs.Histories.{IsHistory, IsCommand, IsToldBehind, is_own, own}
 use Rattle.unit_history.specs.Calls.{HasServed}
-use Rattle.portal.specs.Late.{Late, late_at, Flushing, asked_by, served_by, IsTold, IsToldEnd}
+use Rattle.late_flushes.specs.Flushes.{Flushing, asked_by, served_by, IsTold}
+use Rattle.portal.specs.Late.{Late, late_at, IsToldEnd}
 use Rattle.portal.specs.Units.{Claims, IsSubmitted, IsResetBy}
 use Rattle.portal.specs.Submitted.{At, held_of, IsOnce, IsSettled, IsTwice, IsServed, IsResetAnswer, answer_of, is_moved}
 use Rattle.portal.specs.declared.units.Unserved.{Unserved}
 use Rattle.portal.specs.declared.units.Unserved.TheVariants.{ByUnit, ByDesk}
-use Rattle.portal.proofs.Settling.{late_entry}
+use Rattle.late_flushes.proofs.FlushLaws.{has_late_flush, possible_at_end, told_by}
 use Rattle.portal.specs.Entries.{Done, replied, was_reset, done_by, reset_by, AreEntries, IsEntry, IsNextDone}
 
 pub itself : (n : ℕ) → nat_eq n n ≡ true
@@ -209,9 +210,17 @@ module _ (claims : Claims) (late : Late) (s : UnitState) where
         let seen_c : new.seen ≡ before ++ c ∷ [] = subst (λ (x : Entry). new.seen ≡ before ++ x ∷ []) is.1 seen in
         subst (λ (x : Entry). IsEntry claims late s before x (replied (Ok (asked_by f)) bytes told)) (sym is.1) (
           refl,
-          inr (late_entry claims late s before old.session old.serial by_group bytes is.0 f is_late behind seen_c
-              (subst (λ (h : List Entry). IsHistory claims.contents s h) seen_c legal).legal reply told
-              (subst (λ (x : Entry). IsToldBehind claims.contents s before x reply) is.1 replied_is) ended),
+          inr (record {
+            is_late = is_late;
+            stands = has_late_flush claims.contents
+                ((pass : PlacedPass Entry) × (pass.pass.seen ≡ before ++ c ∷ []) × late.lasts pass) s before old.session old.serial
+                by_group bytes is.0 f
+                (possible_at_end claims.contents s before c
+                (subst (λ (h : List Entry). IsHistory claims.contents s h) seen_c legal).legal) reply told
+                (subst (λ (x : Entry). IsToldBehind claims.contents s before x reply) is.1 replied_is)
+                (told_by (late.lasts behind) ((pass : PlacedPass Entry) × (pass.pass.seen ≡ before ++ c ∷ []) × late.lasts pass)
+                reply told (λ (lasts : late.lasts behind). (behind, seen_c, lasts)) ended);
+          }),
         )
 
     grows_told : (reply told : ReplyValue) → HasServed claims.contents s old new by_group (Ok (served_by f)) bytes reply

@@ -22,7 +22,8 @@ use Rattle.unit_state.specs.History.{state_after}
 use Rattle.unit_lock.specs.Calls.{PlacedPass}
 use Rattle.status.specs.Views.{counted}
 use Rattle.unit_entries.specs.Histories.{IsHistory, IsToldBehind, is_own, own}
-use Rattle.portal.specs.Late.{Late, IsTold, IsUnflushed, late_at}
+use Rattle.late_flushes.specs.Flushes.{HasLateFlush}
+use Rattle.portal.specs.Late.{Late, late_at}
 use Rattle.portal.specs.Units.{Claims}
 
 -- a command that a unit replied to, or a reset of it that was done
@@ -67,22 +68,14 @@ IsLast session rest =
 -- a unit that opened in this state, over devices whose types claim what is said of a disk or not, behind a gate to which flushes may
 -- be left
 module _ (claims : Claims) (late : Late) (s : UnitState) where
-  -- The entry behind this history stands for a command whose flush came behind it. The command as it was asked could stand in its
-  -- place, over any device, with this choice: it is possible there, leaves the unit as the entry does, and is answered so. It is what
-  -- was told in place of the entry's reply, GOOD behind a flush that began when the session's pass had seen the entry.
+  -- The entry behind this history stands for a command whose flush was left to the gate, and came behind it. GOOD was told only behind
+  -- a flush that began when the session's pass had seen the entry.
   pub record IsLate (before : List Entry) (session serial : ℕ) (by : Group) (served : Result ScsiCommand CdbFault) (bytes : List ℕ)
       (choice : Choice) (asked : Result ScsiCommand CdbFault) (reply : ReplyValue) : Type 0 where
     pub is_late : IsTrue late.is_late
-    pub unflushed : IsUnflushed asked served
-    pub end : Choice
-    pub possible : IsPossible false (state_after s before) (Command session serial by asked bytes end)
-    pub same : after (state_after s before) (Command session serial by asked bytes end)
-        ≡ after (state_after s before) (Command session serial by served bytes choice)
-    pub told : IsToldBehind false s before (Command session serial by asked bytes end) reply
-    pub first : ReplyValue
-    pub replied_first : IsToldBehind claims.contents s before (Command session serial by served bytes choice) first
-    pub told_is : IsTold ((pass : PlacedPass Entry) × (pass.pass.seen ≡ before ++ Command session serial by served bytes choice ∷ [])
-        × late.lasts pass) first reply
+    pub stands : HasLateFlush claims.contents ((pass : PlacedPass Entry)
+        × (pass.pass.seen ≡ before ++ Command session serial by served bytes choice ∷ []) × late.lasts pass)
+        s before session serial by served bytes choice asked reply
 
   -- The entry behind this history is this command, and the reply is what the model gives there, or stands for it so; or it is the
   -- reset.

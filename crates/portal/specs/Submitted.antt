@@ -13,7 +13,8 @@ use Rattle.session_rules.specs.declared.target.ResetAnswer.{ResetAnswer}
 use Rattle.session_rules.specs.declared.target.ResetAnswer.TheVariants as resets
 use Rattle.unit_control.specs.State.{UnitState}
 use Rattle.unit_control.specs.Entry.{Entry}
-use Rattle.portal.specs.Late.{Late, IsUnflushed, IsToldEnd}
+use Rattle.late_flushes.specs.Flushes.{IsUnflushed}
+use Rattle.portal.specs.Late.{Late, IsToldEnd}
 use Rattle.portal.specs.Units.{Claims, IsSubmitted, IsResetBy}
 use Rattle.portal.specs.declared.units.Unserved.{Unserved}
 use Rattle.portal.specs.declared.units.Unserved.TheVariants.{ByUnit, ByDesk}

@@ -1,51 +1,10 @@
-//! Commands whose flush comes behind them, when their unit is free again for others.
-ghost use Rattle.std.specs.Prelude.{IfSome};
-ghost use Rattle.portal.specs.Late.{IsTold, IsUnflushed};
+//! What is told of commands whose flush comes behind them, when their unit is free again for others.
+ghost use Rattle.late_flushes.specs.Flushes.{IsTold};
 
 use crate::gate::Gate;
 use crate::units::Pass;
-use scsi_types::{Asked, Command, Reply, Sense, Status};
+use scsi_types::{Reply, Sense, Status};
 use std::alloc::Global;
-
-/// What a unit is asked in place of a command that ends with a flush: the same without it. A SYNCHRONIZE CACHE is a write of no block
-/// at the last block of its range. None where a command has no flush, or one before it reads.
-pub(crate) fn without_flush(asked: &Asked) -> Option<Asked>
-    ensures { IfSome result (λ served. IsUnflushed asked.now served) }
-{
-    match asked {
-        Ok(
-            Command::Write {
-                lba,
-                blocks,
-                fua: true,
-            },
-        ) => Some(Ok(Command::Write {
-            lba: *lba,
-            blocks: *blocks,
-            fua: false,
-        })),
-        Ok(
-            Command::CompareAndWrite {
-                lba,
-                blocks,
-                fua: true,
-            },
-        ) => Some(Ok(Command::CompareAndWrite {
-            lba: *lba,
-            blocks: *blocks,
-            fua: false,
-        })),
-        Ok(Command::SynchronizeCache { lba, blocks }) => {
-            let last = lba.checked_add(u64::from(blocks.saturating_sub(1)))?;
-            Some(Ok(Command::Write {
-                lba: last,
-                blocks: 0,
-                fua: false,
-            }))
-        }
-        _ => None,
-    }
-}
 
 /// What is told in place of a reply to a command without its flush: GOOD only behind a flush that began when the session's pass had
 /// seen it.

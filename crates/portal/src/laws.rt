@@ -1,10 +1,10 @@
 //! What is said of sessions, in a storage engineer's words.
-ghost use Rattle.std.specs.Prelude.{◌≡◌, ◌⊎◌, ◌++◌, ◌∷◌, [], All, AllPairs, List, Bool, ℕ, false, true, length};
+ghost use Rattle.std.specs.Prelude.{◌≡◌, ◌⊎◌, All, AllPairs, List, ℕ, true, length};
 ghost use mathlib.Core.List.{IsPrefix};
 ghost use Rattle.unit_control.specs.State.{UnitState};
-ghost use Rattle.unit_control.specs.Entry.{Entry, IsPossible, after};
-ghost use Rattle.unit_state.specs.History.{IsLegal, state_after};
-ghost use Rattle.unit_entries.specs.Histories.{IsHistory, is_own};
+ghost use Rattle.unit_control.specs.Entry.{Entry};
+ghost use Rattle.unit_state.specs.History.{IsLegal};
+ghost use Rattle.unit_entries.specs.Histories.{is_own};
 ghost use Rattle.scsi_types.specs.Nexus.{Nexus};
 ghost use Rattle.portal.specs.Entries.{AreAlike, Done, HasDone, IsAttachOf};
 ghost use Rattle.portal.specs.Leavers.{AreTwo, Leaver, StandsIn};
@@ -14,20 +14,6 @@ ghost use Rattle.portal.specs.Units.{any_device};
 use crate::gate::Gate;
 use crate::units::{LogicalUnits, Pass};
 use unit_state::laws::serials_count_commands;
-
-/// A command whose flush came behind it is one step of its unit: with the command as it was asked and told in the place of its entry,
-/// which it may have (`IsLate`), the history is legal over any device, and leads to the same state. What stands before it and behind
-/// it stays as it is.
-#[tactic(auto, using(crate::proofs::Settling::in_place, crate::proofs::Settling::leads_in_place))]
-pub fn a_command_with_a_late_flush_is_one_step()
-    ensures legal { (claims : Bool) (s : UnitState) (before behind : List Entry) (entry asked : Entry)
-        → IsHistory claims s ((before ++ entry ∷ []) ++ behind) → IsPossible false (state_after s before) asked
-        → after (state_after s before) asked ≡ after (state_after s before) entry
-        → IsHistory false s ((before ++ asked ∷ []) ++ behind) }
-    ensures state { (s : UnitState) (before behind : List Entry) (entry asked : Entry)
-        → after (state_after s before) asked ≡ after (state_after s before) entry
-        → state_after s ((before ++ asked ∷ []) ++ behind) ≡ state_after s ((before ++ entry ∷ []) ++ behind) }
-{}
 
 /// What a session has done behind a gate that flushes late, it has done as it was asked and told in a history of the model, over any
 /// device. That leads to the same state at each place as the one that was seen, and differs from it in entries of the session's own

@@ -4,9 +4,10 @@ ghost use Rattle.portal.specs.Late.{late_of};
 ghost use Rattle.portal.specs.Submitted.{IsCalled, IsOnce, IsServed, IsResetAnswer, answer_of, believed};
 
 use crate::gate::Gate;
-use crate::late::{answer_behind_flush, without_flush};
+use crate::late::answer_behind_flush;
 use crate::units::{LogicalUnits, Pass, Unserved};
 use forwarding::DeskFault;
+use late_flushes::without_flush;
 use scsi_types::{Asked, Group, Reply};
 use session::{ResetAnswer, TargetAnswer};
 use std::alloc::Global;

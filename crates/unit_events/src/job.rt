@@ -8,12 +8,15 @@ use unit_lock::Refused;
 pub struct Job {
     /// The group of the desk.
     pub by_group: Group,
-    /// What the command asks.
+    /// What its unit is asked.
     pub asked: Asked,
     /// The data that came for it.
     pub bytes: Bytes,
     /// Whether it came to Moved before.
     pub is_second: bool,
+    /// What its session asked, where the flush of that comes behind it: the unit is asked the same without the flush. Of this the
+    /// unit knows nothing.
+    pub late: Option<Asked>,
 }
 
 /// What a job came to.

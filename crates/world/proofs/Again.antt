@@ -1,5 +1,5 @@
 -- A session whose command is looked at before it goes on.
-use Rattle.std.proofs.Common.{◌≡◌, ◌||◌, ℕ, Bool, true, false, nat_eq, if◌then◌else◌, List, [], ◌∷◌, ◌++◌, length, Option, Some, None}
+use Rattle.std.proofs.Common.{◌≡◌, ◌||◌, ℕ, Bool, true, false, nat_eq, if◌then◌else◌, List, [], ◌∷◌, ◌++◌, length, Option, Some, None, Result}
 use Rattle.std.proofs.Common.{refl, sym, ap, subst, ◌∙◌, ◌⊎◌, inl, inr}
 use Rattle.std.specs.List.{remove}
 use Rattle.std.specs.Prelude.{IfSome, MatchOption, ◌<◌, slice_get, slice_index_or, slice_set}
@@ -11,16 +11,20 @@ use Rattle.scsi_types.specs.declared.names.Group.TheVariants.{One, Two}
 use Rattle.world.specs.Records.{on_from, sent}
 use Rattle.world.specs.declared.records.Way.{Way}
 use Rattle.world.specs.declared.records.Way.TheVariants as ways
-use Rattle.world.specs.Traffic.{Traffic, at_stage, given, given_up, heard, is_closed, note_of, noted, waiting}
-use Rattle.world.specs.Traffic.{IsTakenBack, in_lane, taken_back, waits_in, with_waiting}
+use Rattle.scsi_types.specs.ReplyValue.{ReplyValue}
+use Rattle.scsi_types.specs.declared.command.Command.{Command as ScsiCommand}
+use Rattle.scsi_types.specs.declared.command.CdbFault.{CdbFault}
+use Rattle.world.specs.Traffic.{Traffic, as_asked, at_stage, given, given_up, heard, is_closed, is_good, note_of, noted, waiting}
+use Rattle.world.specs.Traffic.{IsAgain, IsHanded, IsTakenBack, in_lane, replied, returned_in, settled, taken_back, told_behind, flush_in, waits_in, with_waiting}
+use Rattle.world.specs.declared.session.Flush.{Flush}
 use Rattle.world.specs.declared.note.What.{What}
-use Rattle.world.specs.declared.note.What.TheVariants.{Submitted, Replied as HasReply, Busy, Gone}
+use Rattle.world.specs.declared.note.What.TheVariants.{Submitted, FlushBegan, Replied as HasReply, Settled, Busy, Gone}
 use Rattle.unit_events.specs.declared.job.Job.{Job}
 use Rattle.unit_events.specs.declared.job.End.{End}
 use Rattle.unit_events.specs.declared.job.End.TheVariants.{Replied, Refused as IsRefused}
 use Rattle.world.specs.declared.session.Session.{Session}
 use Rattle.world.specs.declared.session.Stage.{Stage}
-use Rattle.world.specs.declared.session.Stage.TheVariants.{Idle, InLane, Waits, Returned}
+use Rattle.world.specs.declared.session.Stage.TheVariants.{Flushes, Idle, InLane, Waits, Returned}
 use Rattle.world.proofs.Lists.{get_written, set_same}
 
 pub there_is : {X : Type 0} (xs : List X) (n : ℕ) (x : X) → n < length xs → x ≡ slice_index_or xs n x → slice_get xs n ≡ Some x
@@ -114,14 +118,41 @@ module _ (t : Traffic) (n : ℕ) (x : Session) (stage : Stage) where
   moved_again count after false =
       ap (λ (xs : List Session). record t { sessions = xs }) (twice (record x { stage = Returned after }))
 
-  heard_again : (count : ℕ) (job : Job) (end : End) → heard count then_at n seen job end ≡ heard count t n x job end
-  heard_again count job (Replied reply at next) =
+  pub settled_again : (count : ℕ) (job : Job) (told : ReplyValue) (at next : ℕ) (is_flushed : Bool)
+      → settled count then_at n seen job told at next is_flushed ≡ settled count t n x job told at next is_flushed
+  settled_again count job told at next is_flushed =
+      ap (λ (xs : List Session).
+      record t { sessions = xs; notes = t.notes ++ note_of count x (Settled job told at is_flushed) ∷ [] })
+      (twice (record x { next = next; stage = Idle }))
+
+  put_off_again : (count : ℕ) (job : Job) (reply : ReplyValue) (at next : ℕ) (good : Bool)
+      → (let a : Traffic = if good
+      then noted (at_stage then_at n seen (Flushes (record { job = job; reply = reply; place = at; next = next })))
+      (note_of count seen FlushBegan)
+      else settled count then_at n seen job reply at next false in a)
+      ≡ (if good
+      then noted (at_stage t n x (Flushes (record { job = job; reply = reply; place = at; next = next })))
+      (note_of count x FlushBegan)
+      else settled count t n x job reply at next false)
+  put_off_again count job reply at next true =
+      ap (λ (xs : List Session). record t { sessions = xs; notes = t.notes ++ note_of count x FlushBegan ∷ [] })
+      (twice (record x { stage = Flushes (record { job = job; reply = reply; place = at; next = next }) }))
+  put_off_again count job reply at next false = settled_again count job reply at next false
+
+  replied_again : (count : ℕ) (job : Job) (late : Option (Result ScsiCommand CdbFault)) (reply : ReplyValue) (at next : ℕ)
+      → replied count then_at n seen job late reply at next ≡ replied count t n x job late reply at next
+  replied_again count job None reply at next =
       ap (λ (xs : List Session). record t { sessions = xs; notes = t.notes ++ note_of count x (HasReply job reply at) ∷ [] })
       (twice (record x { next = next; stage = Idle }))
+  replied_again count job (Some asked) reply at next =
+      put_off_again count (record job { asked = asked; late = None }) reply at next (is_good reply.status)
+
+  heard_again : (count : ℕ) (job : Job) (end : End) → heard count then_at n seen job end ≡ heard count t n x job end
+  heard_again count job (Replied reply at next) = replied_again count job job.late reply at next
   heard_again count job (IsRefused IsGone) = given_up_again count Gone
   heard_again count job (IsRefused NoMemory) = given_up_again count Busy
   heard_again count job (IsRefused (Moved to)) =
-      moved_again count (record job { by_group = to; is_second = true }) job.is_second
+      moved_again count (record (as_asked job) { by_group = to; is_second = true }) job.is_second
 
   -- it goes on
   pub goes_on : {A : Type 0} (in_stage : Session → Option A) (act : Traffic → Session → A → Traffic) (a : A) (new : Traffic)
@@ -137,12 +168,22 @@ module _ (t : Traffic) (n : ℕ) (x : Session) (stage : Stage) where
   sent_again ways.Desk count job = handed_to count job job.by_group
   sent_again ways.Hand count job = held_by count job job.by_group
 
-  pub sends_again : (in_stage : Session → Option Job) (way : Way) (count : ℕ) (job : Job) (new : Traffic)
-      → slice_get t.sessions n ≡ Some x → in_stage x ≡ Some job
-      → IfSome (slice_get then_at.sessions n) (λ y. new ≡ sent way count then_at n y job)
-      → new ≡ given t (slice_get t.sessions n) (λ y. given t (in_stage y) (λ j. sent way count t n y j))
-  sends_again in_stage way count job new there is did =
-      goes_on in_stage (λ u y j. sent way count u n y j) job new there is (sent_again way count job) did
+  -- a command that came to Moved is sent once more
+  pub sends_again : (way : Way) (count : ℕ) (is_late : Bool) (job handed : Job) (new : Traffic)
+      → slice_get t.sessions n ≡ Some x → returned_in x.stage ≡ Some job → IsHanded is_late job handed
+      → IfSome (slice_get then_at.sessions n) (λ y. new ≡ sent way count then_at n y handed)
+      → MatchOption (slice_get t.sessions n) (new ≡ t) (λ y. IsAgain (sent way count) is_late t n y new)
+  sends_again way count is_late job handed new there is put did =
+      let done : new ≡ sent way count then_at n seen handed =
+      subst (λ (o : Option Session). IfSome o (λ y. new ≡ sent way count then_at n y handed)) (get_written t.sessions n seen x there) did in
+      rw (there, is) (handed, put, done ∙ sent_again way count handed)
+
+  pub sends_none : (way : Way) (count : ℕ) (is_late : Bool) → slice_get t.sessions n ≡ Some x → returned_in x.stage ≡ None
+      → stage ≡ x.stage → MatchOption (slice_get t.sessions n) (then_at ≡ t) (λ y. IsAgain (sent way count) is_late t n y then_at)
+  sends_none way count is_late there none same =
+      rw (there, none)
+      (ap (λ (xs : List Session). record t { sessions = xs })
+      (ap (λ (s : Stage). slice_set t.sessions n (record x { stage = s })) same ∙ set_same t.sessions n x there))
 
   pub hears_it : (in_stage : Session → Option (Job × End)) (count : ℕ) (job : Job) (end : End) (new : Traffic)
       → slice_get t.sessions n ≡ Some x → in_stage x ≡ Some (job, end)
@@ -150,6 +191,17 @@ module _ (t : Traffic) (n : ℕ) (x : Session) (stage : Stage) where
       → new ≡ given t (slice_get t.sessions n) (λ y. given t (in_stage y) (λ a. heard count t n y a.0 a.1))
   hears_it in_stage count job end new there is did =
       goes_on in_stage (λ u y a. heard count u n y a.0 a.1) (job, end) new there is (heard_again count job end) did
+
+  pub settles_it : (count : ℕ) (is_done : Bool) (flush : Flush) (new : Traffic)
+      → slice_get t.sessions n ≡ Some x → flush_in x.stage ≡ Some flush
+      → IfSome (slice_get then_at.sessions n)
+      (λ y. new ≡ settled count then_at n y flush.job (told_behind is_done flush.reply) flush.place flush.next is_done)
+      → new ≡ given t (slice_get t.sessions n) (λ y. given t (flush_in y.stage)
+      (λ f. settled count t n y f.job (told_behind is_done f.reply) f.place f.next is_done))
+  settles_it count is_done flush new there is did =
+      goes_on (λ y. flush_in y.stage)
+      (λ u y f. settled count u n y f.job (told_behind is_done f.reply) f.place f.next is_done) flush new there is
+      (settled_again count flush.job (told_behind is_done flush.reply) flush.place flush.next is_done) did
 
 -- ---- a job that is taken back from its desk
 

@@ -14,7 +14,7 @@ module _ {X : Type 0} where
   get_kept (x ∷ xs) e zero a is = is
   get_kept (x ∷ xs) e (suc n) a is = get_kept xs e n a is
 
-  some_same : (a b : X) → (let o : Option X = Some a in o) ≡ Some b → a ≡ b
+  pub some_same : (a b : X) → (let o : Option X = Some a in o) ≡ Some b → a ≡ b
   some_same a b is = cc
 
   pub get_pushed : (xs : List X) (e : X) (n : ℕ) (a : X) → slice_get (xs ++ e ∷ []) n ≡ Some a

@@ -1,5 +1,5 @@
 -- The order of a world holds over every list of events.
-use Rattle.std.proofs.Common.{◌≡◌, ◌≢◌, ◌⊎◌, ⊎_elim, ℕ, ◌+◌, ◌≤◌, Bool, true, false, nat_eq}
+use Rattle.std.proofs.Common.{◌≡◌, ◌≢◌, ◌⊎◌, ⊎_elim, ℕ, ◌+◌, ◌<◌, ◌≤◌, Bool, true, false, nat_eq}
 use Rattle.std.proofs.Common.{List, [], ◌∷◌, ◌++◌, length, Option, Some, None, refl, sym, ap, subst, ◌∙◌, arith}
 use Rattle.std.specs.Prelude.{MatchOption, slice_get}
 use Rattle.std.proofs.lemmas.Bool.Decides.{eqb_tells}
@@ -13,21 +13,21 @@ use Rattle.unit_state.specs.Serials.{IsOpening}
 use Rattle.unit_entries.specs.Histories.{IsHistory, command}
 use Rattle.world.specs.Traffic.{Traffic, at_stage, attached, closed, given, in_lane, new_job, taken_from, waiting, with_waiting}
 use Rattle.world.specs.Events.{Scene, scene, with_entry, with_traffic, Takes, IsEntry, IsServed, IsServing, IsStep, AreSteps, IsReached, count_at, start}
-use Rattle.world.specs.Orders.{IsEntryOf, IsNone, IsNoted, IsOrderly, IsSubmittedBehind}
+use Rattle.world.specs.Orders.{IsEntryOf, IsNone, IsNoted, IsOrderly, IsSubmittedBehind, IsToldAt}
 use Rattle.world.specs.declared.event.Event.{Event}
 use Rattle.world.specs.declared.event.Event.TheVariants as events
 use Rattle.world.specs.declared.note.Note.{Note}
 use Rattle.world.specs.declared.note.What.{What}
-use Rattle.world.specs.declared.note.What.TheVariants.{Submitted, Replied as HasReply, Busy, Gone}
+use Rattle.world.specs.declared.note.What.TheVariants.{Submitted, FlushBegan, Replied as HasReply, Settled, Busy, Gone}
 use Rattle.unit_events.specs.declared.job.Job.{Job}
 use Rattle.unit_events.specs.declared.job.End.{End}
 use Rattle.unit_events.specs.declared.job.End.TheVariants.{Replied, Refused as IsRefused}
 use Rattle.world.specs.declared.session.Session.{Session}
 use Rattle.world.specs.declared.session.Stage.{Stage}
-use Rattle.world.specs.declared.session.Stage.TheVariants.{Idle, Waits, InLane, Ended, Answered, Returned}
-use Rattle.world.proofs.Sound.{Sound, no_entry, quiet_entry, StageOk, IsUnserved, WhatOk}
+use Rattle.world.specs.declared.session.Stage.TheVariants.{Idle, Waits, InLane, Ended, Answered, Flushes, Returned}
+use Rattle.world.proofs.Sound.{Sound, no_entry, quiet_entry, StageOk, IsUnserved, JobOk, WhatOk}
 use Rattle.world.proofs.Steps.{sound_attached, sound_begun, sound_begun_again, sound_closed, sound_elsewhere, sound_submitted}
-use Rattle.world.proofs.Steps.{sound_submitted_again, sound_in_lane, sound_taken_back}
+use Rattle.world.proofs.Steps.{handed_ok, sound_flush_ended, sound_submitted_again, sound_in_lane, sound_taken_back}
 use Rattle.world.proofs.Steps.{sound_posted, sound_collected, sound_ended, sound_served, sound_waiting}
 
 module _ (claims : Bool) (units : ℕ) (opening : ℕ → UnitState) where
@@ -128,7 +128,7 @@ module _ (claims : Bool) (units : ℕ) (opening : ℕ → UnitState) where
         subst Holds new_is
         (entered w x.place e to holds served.4
         (sound_served claims (opening x.place) x.place h w.traffic n x (holds.sound x.place) there job reply served.0 refl
-        ok.0 ok.1 served.5)
+        ok.0 ok.1 ok.2 served.5)
         (λ place other. sound_ended claims (opening place) place (w.past place) w.traffic n x (holds.sound place) there job
         (Replied reply (length h) (x.next + 1)) (λ at_it. absurd (other at_it))))
     ended job is new (IsRefused why) served traffic =
@@ -150,6 +150,7 @@ module _ (claims : Bool) (units : ℕ) (opening : ℕ → UnitState) where
         (λ (did : (units ≤ x.place) × (new ≡ w)). subst Holds (sym did.1) holds) step
     serving (Ended job end) is new step = subst Holds (sym step) holds
     serving (Answered job end) is new step = subst Holds (sym step) holds
+    serving (Flushes flush) is new step = subst Holds (sym step) holds
     serving (Returned job) is new step = subst Holds (sym step) holds
 
   -- of a session that may not be there
@@ -193,26 +194,28 @@ module _ (claims : Bool) (units : ℕ) (opening : ℕ → UnitState) where
       (λ x is did. quiet_entered w new x.place (Reset x.id) _ (λ session. refl) holds did)
   step_holds w new (events.Move k list) step holds =
       quiet_entered w new k (Move list Fine) _ (λ session. refl) holds step
-  step_holds w new (events.Submit n group asked bytes) step holds =
-      subst Holds (sym step)
+  step_holds w new (events.Submit n group asked bytes is_late) step holds =
+      subst Holds (sym step.2)
       (does w (slice_get w.traffic.sessions n) _ holds
       (λ place x is. sound_submitted claims (opening place) place (w.past place) w.traffic n x (holds.sound place) is _
-      (new_job group asked bytes) (count_is w x place)))
-  step_holds w new (events.SubmitAgain n) step holds =
-      subst Holds (sym step)
-      (does w (slice_get w.traffic.sessions n) _ holds
-      (λ place x is. sound_submitted_again claims (opening place) place (w.past place) w.traffic n x (holds.sound place) is _
-      (count_is w x place)))
-  step_holds w new (events.Begin n group asked bytes) step holds =
-      subst Holds (sym step)
+      step.0 (count_is w x place) (λ at. handed_ok is_late (new_job group asked bytes) step.0 tt step.1)))
+  step_holds w new (events.SubmitAgain n is_late) step holds =
+      of_session w new (slice_get w.traffic.sessions n) _ holds step
+      (λ x is did. subst Holds (sym did.2)
+      (quiet w did.0 holds
+      (λ place. sound_submitted_again claims (opening place) place (w.past place) w.traffic n x (holds.sound place) is _
+      is_late did.0 (count_is w x place) did.1)))
+  step_holds w new (events.Begin n group asked bytes is_late) step holds =
+      subst Holds (sym step.2)
       (does w (slice_get w.traffic.sessions n) _ holds
       (λ place x is. sound_begun claims (opening place) place (w.past place) w.traffic n x (holds.sound place) is _
-      (new_job group asked bytes) (count_is w x place)))
-  step_holds w new (events.BeginAgain n) step holds =
-      subst Holds (sym step)
-      (does w (slice_get w.traffic.sessions n) _ holds
-      (λ place x is. sound_begun_again claims (opening place) place (w.past place) w.traffic n x (holds.sound place) is _
-      (count_is w x place)))
+      step.0 (count_is w x place) (λ at. handed_ok is_late (new_job group asked bytes) step.0 tt step.1)))
+  step_holds w new (events.BeginAgain n is_late) step holds =
+      of_session w new (slice_get w.traffic.sessions n) _ holds step
+      (λ x is did. subst Holds (sym did.2)
+      (quiet w did.0 holds
+      (λ place. sound_begun_again claims (opening place) place (w.past place) w.traffic n x (holds.sound place) is _
+      is_late did.0 (count_is w x place) did.1)))
   step_holds w new (events.TakeBack n) step holds =
       of_session w new (slice_get w.traffic.sessions n) _ holds step
       (λ x is did. subst Holds (sym did.2)
@@ -235,7 +238,12 @@ module _ (claims : Bool) (units : ℕ) (opening : ℕ → UnitState) where
       subst Holds (sym step)
       (does w (slice_get w.traffic.sessions n) _ holds
       (λ place x is. sound_collected claims (opening place) place (w.past place) w.traffic n x (holds.sound place) is _
-      (count_is w x place)))
+      (holds.legal place).legal (count_is w x place)))
+  step_holds w new (events.EndFlush n is_done) step holds =
+      subst Holds (sym step)
+      (does w (slice_get w.traffic.sessions n) _ holds
+      (λ place x is. sound_flush_ended claims (opening place) place (w.past place) w.traffic n x (holds.sound place) is _
+      is_done (holds.legal place).legal (count_is w x place)))
 
   steps_hold : (w new : Scene) (events : List Event) → AreSteps claims units opening w events new → Holds w → Holds new
   steps_hold w new [] is holds = subst Holds (sym is) holds
@@ -271,9 +279,21 @@ module _ (claims : Bool) (units : ℕ) (opening : ℕ → UnitState) where
     none_of : (i at : ℕ) (a : Note) (what : What) → IsNone what → WhatOk claims (opening a.place) (w.past a.place) w.traffic.notes i a what
         → IsEntryOf (w.past a.place) at a.session a.serial → IsSubmittedBehind w.traffic.notes i a at
     none_of i at a Submitted none ok of = absurd none
+    none_of i at a FlushBegan none ok of = absurd none
     none_of i at a (HasReply job reply k) none ok of = absurd none
+    none_of i at a (Settled job told k is_flushed) none ok of = absurd none
     none_of i at a Busy none ok of = ok at of
     none_of i at a Gone none ok of = ok at of
+
+    -- what was told stands behind the entry
+    told_of : (i at : ℕ) (a : Note) (what : What) → IsToldAt what at
+        → WhatOk claims (opening a.place) (w.past a.place) w.traffic.notes i a what → at < a.count
+    told_of i at a Submitted told ok = absurd told
+    told_of i at a FlushBegan told ok = absurd told
+    told_of i at a (HasReply job reply k) told ok = subst (λ (m : ℕ). m < a.count) told ok.0
+    told_of i at a (Settled job reply k is_flushed) told ok = subst (λ (m : ℕ). m < a.count) told ok.0
+    told_of i at a Busy told ok = absurd told
+    told_of i at a Gone told ok = absurd told
 
     pub orderly : IsOrderly claims opening w
     orderly = record {
@@ -282,8 +302,9 @@ module _ (claims : Bool) (units : ℕ) (opening : ℕ → UnitState) where
           let ok = (what_of i a (HasReply job reply at) is what).1 in ((ok.entry, ok.there, ok.is), ok.replies);
       once = λ place session serial at other. (holds.sound place).unit.once at other session serial;
       none = λ i at a is none of. none_of i at a a.what none ((holds.sound a.place).what i a is refl) of;
-      later = λ i j at place a b job reply lt is what also submitted one of.
-          let first = (what_of i a (HasReply job reply at) is what).0 in
+      late = λ i a job told at is_flushed is what. (what_of i a (Settled job told at is_flushed) is what).1;
+      later = λ i j at place a b lt is told also submitted one of.
+          let first = told_of i at a a.what told ((holds.sound a.place).what i a is refl) in
           let last = what_of j b Submitted also submitted place of in
           let rises = (holds.sound b.place).rising i j a b lt is also one.0 refl in omega arith;
     }

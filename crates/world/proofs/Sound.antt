@@ -1,7 +1,7 @@
 -- What carries the order of a world through its steps, of the unit at one place.
 use Rattle.std.proofs.Common.{◌≡◌, ◌≢◌, ◌⊎◌, inl, inr, ⊎_elim, ℕ, zero, suc, ◌+◌, ◌<◌, ◌≤◌, Bool, true, false, nat_eq}
-use Rattle.std.proofs.Common.{List, [], ◌∷◌, ◌++◌, length, Some, Result, refl, sym, ap, subst, ◌∙◌, arith}
-use Rattle.std.specs.Prelude.{slice_get, slice_set}
+use Rattle.std.proofs.Common.{List, [], ◌∷◌, ◌++◌, length, Option, Some, Result, refl, sym, ap, subst, ◌∙◌, arith, append_assoc}
+use Rattle.std.specs.Prelude.{MatchOption, slice_get, slice_set}
 use Rattle.std.proofs.lemmas.Bool.Decides.{eqb_tells}
 use Rattle.std.proofs.lemmas.List.Sums.{sum_by_push}
 use Rattle.std.proofs.lemmas.Option.{slice_get_within}
@@ -10,21 +10,26 @@ use Rattle.scsi_types.specs.ReplyValue.{ReplyValue}
 use Rattle.scsi_types.specs.declared.names.Group.{Group}
 use Rattle.scsi_types.specs.declared.command.Command.{Command as ScsiCommand}
 use Rattle.scsi_types.specs.declared.command.CdbFault.{CdbFault}
+use Rattle.scsi_types.specs.declared.status.Status.TheVariants.{Good}
 use Rattle.unit_control.specs.State.{UnitState}
-use Rattle.unit_control.specs.Entry.{Entry, Attach, Detach, Reset, Move, Command, after}
-use Rattle.unit_state.specs.History.{IsReplyAt}
-use Rattle.unit_entries.specs.Histories.{IsCommand, command}
-use Rattle.world.specs.Orders.{IsEntryOf, IsNone, IsNoted, IsSubmittedBehind}
+use Rattle.unit_control.specs.Choice.{Choice}
+use Rattle.unit_control.specs.Entry.{Entry, Attach, Detach, Reset, Move, Command, IsPossible, after}
+use Rattle.unit_state.specs.History.{state_after, IsLegal, IsReplyAt}
+use Rattle.unit_entries.specs.Histories.{IsCommand, IsToldBehind, command}
+use Rattle.late_flushes.specs.Flushes.{IsTold, IsUnflushed}
+use Rattle.late_flushes.proofs.FlushLaws.{late_by, late_flush_of}
+use Rattle.world.specs.Orders.{IsEntryOf, IsFlushedBehind, IsNone, IsNoted, IsSettledAt, IsSubmittedBehind}
 use Rattle.world.specs.declared.note.Note.{Note}
 use Rattle.world.specs.declared.note.What.{What}
-use Rattle.world.specs.declared.note.What.TheVariants.{Submitted, Replied as HasReply, Busy, Gone}
+use Rattle.world.specs.declared.note.What.TheVariants.{Submitted, FlushBegan, Replied as HasReply, Settled, Busy, Gone}
 use Rattle.unit_events.specs.declared.job.Job.{Job}
 use Rattle.unit_events.specs.declared.job.End.{End}
 use Rattle.unit_events.specs.declared.job.End.TheVariants.{Replied, Refused as IsRefused}
+use Rattle.world.specs.declared.session.Flush.{Flush}
 use Rattle.world.specs.declared.session.Session.{Session}
 use Rattle.world.specs.declared.session.Stage.{Stage}
-use Rattle.world.specs.declared.session.Stage.TheVariants.{Idle, Waits, InLane, Ended, Answered, Returned}
-use Rattle.world.proofs.Lists.{get_kept, get_pushed, get_set, longer}
+use Rattle.world.specs.declared.session.Stage.TheVariants.{Idle, Waits, InLane, Ended, Answered, Flushes, Returned}
+use Rattle.world.proofs.Lists.{get_kept, get_pushed, get_set, longer, some_same}
 
 -- ---- entries
 
@@ -160,30 +165,61 @@ pub record IsHandedIn (h : List Entry) (notes : List Note) (unit_at id next : �
   pub last : (i : ℕ) (a : Note) → IsNoted notes i a → IsNone a.what → a.place ≡ unit_at → a.session ≡ id
       → a.serial ≡ next → i < place
 
+-- a flush began behind its command, when the history had the entry at this place
+abbrev pub HasBegun : List Note → ℕ → ℕ → ℕ → ℕ → Type 0
+HasBegun notes unit_at id serial at =
+    (j : ℕ) × (b : Note) × IsNoted notes j b × (b.what ≡ FlushBegan) × (unit_at ≡ b.place) × (id ≡ b.session) × (b.serial ≡ serial)
+    × (at < b.count)
+
+-- its unit is asked what may stand in the place of what was asked
+abbrev pub JobOk : Job → Type 0
+JobOk job = MatchOption job.late (Unit {0}) (λ asked. IsUnflushed asked job.asked)
+
 -- its command is the entry at a place, with this reply
-pub record HasEntry (claims : Bool) (s : UnitState) (h : List Entry) (id serial : ℕ) (job : Job) (reply : ReplyValue) (at : ℕ)
-    : Type 0 where
+pub record HasEntry (claims : Bool) (s : UnitState) (h : List Entry) (id serial : ℕ) (by : Group)
+    (asked : Result ScsiCommand CdbFault) (bytes : List ℕ) (reply : ReplyValue) (at : ℕ) : Type 0 where
   pub entry : Entry
   pub there : slice_get h at ≡ Some entry
-  pub is : IsCommand id serial job.by_group job.asked job.bytes entry
+  pub is : IsCommand id serial by asked bytes entry
   pub replies : IsReplyAt claims s h at reply
+
+-- the entry of a command behind which a flush is on its way
+pub record FlushOk (claims : Bool) (s : UnitState) (h : List Entry) (notes : List Note) (unit_at id serial : ℕ) (flush : Flush)
+    : Type 0 where
+  pub served : Result ScsiCommand CdbFault
+  pub unflushed : IsUnflushed flush.job.asked served
+  pub count : commands id h ≡ serial
+  pub next : flush.next ≡ serial + 1
+  pub entry : HasEntry claims s h id serial flush.job.by_group served flush.job.bytes flush.reply flush.place
+  pub good : flush.reply.status ≡ Good
+  pub began : HasBegun notes unit_at id serial flush.place
 
 module _ (claims : Bool) (s : UnitState) where
   abbrev pub EndOk : List Entry → Session → Job → End → Type 0
-  EndOk h x job (Replied reply at next) = (commands x.id h ≡ x.next) × (next ≡ x.next + 1) × HasEntry claims s h x.id x.next job reply at
+  EndOk h x job (Replied reply at next) =
+      (commands x.id h ≡ x.next) × (next ≡ x.next + 1) × HasEntry claims s h x.id x.next job.by_group job.asked job.bytes reply at × JobOk job
   EndOk h x job (IsRefused why) = IsUnserved h x
 
   abbrev pub StageOk : List Entry → List Note → Session → Stage → Type 0
   StageOk h notes x Idle = IsUnserved h x
-  StageOk h notes x (Waits job) = IsUnserved h x × IsHandedIn h notes x.place x.id x.next
-  StageOk h notes x (InLane job) = IsUnserved h x × IsHandedIn h notes x.place x.id x.next
+  StageOk h notes x (Waits job) = IsUnserved h x × IsHandedIn h notes x.place x.id x.next × JobOk job
+  StageOk h notes x (InLane job) = IsUnserved h x × IsHandedIn h notes x.place x.id x.next × JobOk job
   StageOk h notes x (Ended job end) = EndOk h x job end
   StageOk h notes x (Answered job end) = EndOk h x job end
-  StageOk h notes x (Returned job) = IsUnserved h x
+  StageOk h notes x (Flushes flush) = FlushOk claims s h notes x.place x.id x.next flush
+  StageOk h notes x (Returned job) = IsUnserved h x × JobOk job
+
+  -- what is known of the flush of a command that was told so
+  abbrev pub Lasts : List Note → ℕ → Note → ℕ → Bool → Type 0
+  Lasts notes i a at is_flushed = (is_flushed ≡ true) × IsFlushedBehind notes i a at
 
   abbrev pub WhatOk : List Entry → List Note → ℕ → Note → What → Type 0
   WhatOk h notes i a Submitted = (at : ℕ) → IsEntryOf h at a.session a.serial → a.count ≤ at
-  WhatOk h notes i a (HasReply job reply at) = (at < a.count) × HasEntry claims s h a.session a.serial job reply at
+  WhatOk h notes i a FlushBegan = Unit {0}
+  WhatOk h notes i a (HasReply job reply at) =
+      (at < a.count) × HasEntry claims s h a.session a.serial job.by_group job.asked job.bytes reply at
+  WhatOk h notes i a (Settled job told at is_flushed) =
+      (at < a.count) × IsSettledAt claims (Lasts notes i a at is_flushed) s h a.session a.serial job told at
   WhatOk h notes i a Busy = (at : ℕ) → IsEntryOf h at a.session a.serial → IsSubmittedBehind notes i a at
   WhatOk h notes i a Gone = (at : ℕ) → IsEntryOf h at a.session a.serial → IsSubmittedBehind notes i a at
 
@@ -257,10 +293,32 @@ module _ (claims : Bool) (s : UnitState) where
       → IsSubmittedBehind (notes ++ new ∷ []) i a at
   submitted_kept notes new i a at o = (o.0, o.1, o.2, get_kept notes new o.0 o.1 o.3, o.4, o.5, o.6, o.7)
 
+  flushed_kept : (notes : List Note) (new : Note) (i : ℕ) (a : Note) (at : ℕ) → IsFlushedBehind notes i a at
+      → IsFlushedBehind (notes ++ new ∷ []) i a at
+  flushed_kept notes new i a at o = (o.0, o.1, o.2, get_kept notes new o.0 o.1 o.3, o.4, o.5, o.6, o.7)
+
+  settled_by : (one two : Type 0) (h : List Entry) (id serial : ℕ) (job : Job) (told : ReplyValue) (at : ℕ) → (one → two)
+      → IsSettledAt claims one s h id serial job told at → IsSettledAt claims two s h id serial job told at
+  settled_by one two h id serial job told at more o = record {
+    before = o.before;
+    behind = o.behind;
+    served = o.served;
+    choice = o.choice;
+    is = o.is;
+    place = o.place;
+    stands = late_by claims one two s o.before id serial job.by_group o.served job.bytes o.choice job.asked told more o.stands;
+  }
+
   what_kept : (h : List Entry) (notes : List Note) (new : Note) (i : ℕ) (a : Note) (what : What) → WhatOk h notes i a what
       → WhatOk h (notes ++ new ∷ []) i a what
   what_kept h notes new i a Submitted ok = ok
+  what_kept h notes new i a FlushBegan ok = ok
   what_kept h notes new i a (HasReply job reply at) ok = ok
+  what_kept h notes new i a (Settled job told at is_flushed) ok = (
+    ok.0,
+    settled_by (Lasts notes i a at is_flushed) (Lasts (notes ++ new ∷ []) i a at is_flushed) h a.session a.serial job told at
+        (λ (l : Lasts notes i a at is_flushed). (l.0, flushed_kept notes new i a at l.1)) ok.1,
+  )
   what_kept h notes new i a Busy ok = λ at of. submitted_kept notes new i a at (ok at of)
   what_kept h notes new i a Gone ok = λ at of. submitted_kept notes new i a at (ok at of)
 
@@ -294,17 +352,35 @@ module _ (claims : Bool) (s : UnitState) where
   OnItsWay (InLane job) P = P
   OnItsWay (Ended job end) P = Unit {0}
   OnItsWay (Answered job end) P = Unit {0}
+  OnItsWay (Flushes flush) P = Unit {0}
   OnItsWay (Returned job) P = Unit {0}
+
+  begun_kept : (notes : List Note) (new : Note) (unit_at id serial at : ℕ) → HasBegun notes unit_at id serial at
+      → HasBegun (notes ++ new ∷ []) unit_at id serial at
+  begun_kept notes new unit_at id serial at o = (o.0, o.1, get_kept notes new o.0 o.1 o.2, o.3, o.4, o.5, o.6, o.7)
+
+  flush_noted : (h : List Entry) (notes : List Note) (new : Note) (unit_at id serial : ℕ) (flush : Flush)
+      → FlushOk claims s h notes unit_at id serial flush → FlushOk claims s h (notes ++ new ∷ []) unit_at id serial flush
+  flush_noted h notes new unit_at id serial flush o = record {
+    served = o.served;
+    unflushed = o.unflushed;
+    count = o.count;
+    next = o.next;
+    entry = o.entry;
+    good = o.good;
+    began = begun_kept notes new unit_at id serial flush.place o.began;
+  }
 
   stage_noted : (h : List Entry) (notes : List Note) (new : Note) (x : Session) (stage : Stage)
       → OnItsWay stage (IsOther new x) → StageOk h notes x stage → StageOk h (notes ++ new ∷ []) x stage
   stage_noted h notes new x Idle other ok = ok
-  stage_noted h notes new x (Waits job) other ok = (ok.0, handed_in_kept h notes new x other ok.1)
-  stage_noted h notes new x (InLane job) other ok = (ok.0, handed_in_kept h notes new x other ok.1)
+  stage_noted h notes new x (Waits job) other ok = (ok.0, handed_in_kept h notes new x other ok.1, ok.2)
+  stage_noted h notes new x (InLane job) other ok = (ok.0, handed_in_kept h notes new x other ok.1, ok.2)
   stage_noted h notes new x (Ended job (Replied reply at next)) other ok = ok
   stage_noted h notes new x (Ended job (IsRefused why)) other ok = ok
   stage_noted h notes new x (Answered job (Replied reply at next)) other ok = ok
   stage_noted h notes new x (Answered job (IsRefused why)) other ok = ok
+  stage_noted h notes new x (Flushes flush) other ok = flush_noted h notes new x.place x.id x.next flush ok
   stage_noted h notes new x (Returned job) other ok = ok
 
   module _ (place : ℕ) (h : List Entry) (sessions : List Session) (notes : List Note) (new : Note)
@@ -356,9 +432,10 @@ module _ (claims : Bool) (s : UnitState) where
 
   -- ---- an entry more
 
-  entry_stays : (h : List Entry) (e : Entry) (id serial : ℕ) (job : Job) (reply : ReplyValue) (at : ℕ)
-      → HasEntry claims s h id serial job reply at → HasEntry claims s (h ++ e ∷ []) id serial job reply at
-  entry_stays h e id serial job reply at o = record {
+  entry_stays : (h : List Entry) (e : Entry) (id serial : ℕ) (by : Group) (asked : Result ScsiCommand CdbFault) (bytes : List ℕ)
+      (reply : ReplyValue) (at : ℕ) → HasEntry claims s h id serial by asked bytes reply at
+      → HasEntry claims s (h ++ e ∷ []) id serial by asked bytes reply at
+  entry_stays h e id serial by asked bytes reply at o = record {
     entry = o.entry;
     there = get_kept h e at o.entry o.there;
     is = o.is;
@@ -387,18 +464,42 @@ module _ (claims : Bool) (s : UnitState) where
   end_kept h e x job (Replied reply at next) none ok = (
     let more = commands_pushed x.id h e in let z = none in let k = ok.0 in omega arith,
     ok.1,
-    entry_stays h e x.id x.next job reply at ok.2,
+    entry_stays h e x.id x.next job.by_group job.asked job.bytes reply at ok.2,
+    ok.3,
   )
   end_kept h e x job (IsRefused why) none ok = unserved_kept h e x none ok
 
   pub stage_kept : (h : List Entry) (e : Entry) (notes : List Note) (x : Session) (stage : Stage) → command x.id e ≡ 0
       → StageOk h notes x stage → StageOk (h ++ e ∷ []) notes x stage
   stage_kept h e notes x Idle none ok = unserved_kept h e x none ok
-  stage_kept h e notes x (Waits job) none ok = (unserved_kept h e x none ok.0, handed_in_later h e notes x ok.1)
-  stage_kept h e notes x (InLane job) none ok = (unserved_kept h e x none ok.0, handed_in_later h e notes x ok.1)
+  stage_kept h e notes x (Waits job) none ok = (unserved_kept h e x none ok.0, handed_in_later h e notes x ok.1, ok.2)
+  stage_kept h e notes x (InLane job) none ok = (unserved_kept h e x none ok.0, handed_in_later h e notes x ok.1, ok.2)
   stage_kept h e notes x (Ended job end) none ok = end_kept h e x job end none ok
   stage_kept h e notes x (Answered job end) none ok = end_kept h e x job end none ok
-  stage_kept h e notes x (Returned job) none ok = unserved_kept h e x none ok
+  stage_kept h e notes x (Flushes flush) none ok = record {
+    served = ok.served;
+    unflushed = ok.unflushed;
+    count = let more = commands_pushed x.id h e in let z = none in let k = ok.count in omega arith;
+    next = ok.next;
+    entry = entry_stays h e x.id x.next flush.job.by_group ok.served flush.job.bytes flush.reply flush.place ok.entry;
+    good = ok.good;
+    began = ok.began;
+  }
+  stage_kept h e notes x (Returned job) none ok = (unserved_kept h e x none ok.0, ok.1)
+
+  settled_later : (lasts : Type 0) (h : List Entry) (e : Entry) (id serial : ℕ) (job : Job) (told : ReplyValue) (at : ℕ)
+      → IsSettledAt claims lasts s h id serial job told at → IsSettledAt claims lasts s (h ++ e ∷ []) id serial job told at
+  settled_later lasts h e id serial job told at o =
+      let it : Entry = Command id serial job.by_group o.served job.bytes o.choice in
+      record {
+        before = o.before;
+        behind = o.behind ++ e ∷ [];
+        served = o.served;
+        choice = o.choice;
+        is = ap (λ (z : List Entry). z ++ e ∷ []) o.is ∙ append_assoc (o.before ++ it ∷ []) o.behind (e ∷ []);
+        place = o.place;
+        stands = o.stands;
+      }
 
   -- an end of a command has its submit behind it where the entry is such a command
   abbrev pub HasSubmits : ℕ → List Entry → Entry → List Note → Type 0
@@ -422,8 +523,11 @@ module _ (claims : Bool) (s : UnitState) where
         ⊎_elim (λ (o : IsEntryOf h at a.session a.serial). ok at o)
         (λ (t : (at ≡ length h) × IsOf e a.session a.serial). let m = t.0 in omega arith)
         (entry_pushed h e at a.session a.serial of)
+    what_later i a FlushBegan same is unit le ok = ok
     what_later i a (HasReply job reply at) same is unit le ok =
-        (ok.0, entry_stays h e a.session a.serial job reply at ok.1)
+        (ok.0, entry_stays h e a.session a.serial job.by_group job.asked job.bytes reply at ok.1)
+    what_later i a (Settled job told at is_flushed) same is unit le ok =
+        (ok.0, settled_later (Lasts notes i a at is_flushed) h e a.session a.serial job told at ok.1)
     what_later i a Busy same is unit le ok = ended_more i a is (subst (λ (w : What). IsNone w) (sym same) tt) unit ok
     what_later i a Gone same is unit le ok = ended_more i a is (subst (λ (w : What). IsNone w) (sym same) tt) unit ok
 
@@ -455,3 +559,57 @@ module _ (claims : Bool) (s : UnitState) where
       (λ i a is none unit of. absurd (no a.session a.serial of))
       (λ n x is at. let l = longer h e in let b = sound.id n x is at in omega arith)
       (λ n x is at. stage_kept h e notes x x.stage (quiet x.id) (sound.stage n x is at)) sound.apart
+
+-- ---- a command whose flush came behind it
+
+-- an entry with what stands before and behind it
+record Placed (claims : Bool) (s : UnitState) (h : List Entry) (at : ℕ) (e : Entry) (reply : ReplyValue) : Type 0 where
+  before : List Entry
+  behind : List Entry
+  is : h ≡ (before ++ e ∷ []) ++ behind
+  place : at ≡ length before
+  possible : IsPossible claims (state_after s before) e
+  told : IsToldBehind claims s before e reply
+
+placed : (claims : Bool) (s : UnitState) (h : List Entry) (at : ℕ) (e : Entry) (reply : ReplyValue) → slice_get h at ≡ Some e
+    → IsReplyAt claims s h at reply → IsLegal claims s h → Placed claims s h at e reply
+placed claims s [] at e reply there replies legal = absurd replies
+placed claims s (x ∷ h) zero e reply there replies legal =
+    let same : x ≡ e = some_same x e there in
+    record {
+      before = [];
+      behind = h;
+      is = ap (λ (y : Entry). y ∷ h) same;
+      place = refl;
+      possible = subst (λ (y : Entry). IsPossible claims s y) same legal.0;
+      told = subst (λ (y : Entry). IsToldBehind claims s [] y reply) same replies;
+    }
+placed claims s (x ∷ h) (suc at) e reply there replies legal =
+    let o = placed claims (after s x) h at e reply there replies legal.1 in
+    record {
+      before = x ∷ o.before;
+      behind = o.behind;
+      is = ap (λ (ys : List Entry). x ∷ ys) o.is;
+      place = ap (λ (k : ℕ). suc k) o.place;
+      possible = o.possible;
+      told = o.told;
+    }
+
+pub settled_at : (claims : Bool) (lasts : Type 0) (s : UnitState) (h : List Entry) (id serial : ℕ) (job : Job)
+    (served : Result ScsiCommand CdbFault) (reply told : ReplyValue) (at : ℕ) → IsLegal claims s h → IsUnflushed job.asked served
+    → HasEntry claims s h id serial job.by_group served job.bytes reply at → IsTold lasts reply told
+    → IsSettledAt claims lasts s h id serial job told at
+settled_at claims lasts s h id serial job served reply told at legal off o ended =
+    let it : Entry = Command id serial job.by_group served job.bytes o.is.0 in
+    let here : slice_get h at ≡ Some it = o.there ∙ ap (λ (e : Entry). let r : Option Entry = Some e in r) o.is.1 in
+    let p = placed claims s h at it reply here o.replies legal in
+    record {
+      before = p.before;
+      behind = p.behind;
+      served = served;
+      choice = o.is.0;
+      is = p.is;
+      place = p.place;
+      stands = late_flush_of claims lasts s p.before id serial job.by_group job.bytes o.is.0 job.asked served off p.possible reply told
+          p.told ended;
+    }

@@ -12,7 +12,7 @@ use Rattle.scsi_types.specs.Nexus.{Port}
 use Rattle.scsi_types.specs.declared.names.Group.{Group}
 use Rattle.std.proofs.lemmas.List.{length-set, take_more}
 use Rattle.unit_entries.specs.Histories.{IsBehind, IsHistory, no_state}
-use Rattle.world.specs.Traffic.{Traffic, IsTakenBack, at_stage, attached, ended, given, no_traffic}
+use Rattle.world.specs.Traffic.{Traffic, IsAgain, IsTakenBack, at_stage, attached, ended, given, no_traffic}
 use Rattle.world.specs.Events.{Scene, scene, count_at, with_entry, with_traffic, start, IsEntry, IsReached, IsServed, IsStep, AreSteps}
 use Rattle.world.specs.Worlds.{WorldValue, opened, opening_of, AllHappen, AreBehind, Stands, Happens, IsCountAt, IsCountOf}
 use Rattle.unit_events.specs.Entries.{IsUnitAttach, IsUnitEntry, IsUnitServed, IsUnitServing}
@@ -182,6 +182,37 @@ module _ {B R O : Type 0} (claims : Bool) (contents : B → List (List ℕ)) (fa
         quiet_goes event old new (given old.traffic (slice_get old.traffic.sessions n) (act count)) units traffic
         (λ opening past stands. subst (λ (t : Traffic). Step old opening past event (scene past t))
         (same_act opening past stands (slice_get old.traffic.sessions n) is) (to opening past))
+
+  -- and a command of it that goes on once more
+  module _ (event : Event) (old new : World) (n count : ℕ) (is_late : Bool)
+      (send : ℕ → Traffic → ℕ → Session → Job → Traffic) (is : IsCountOf old n count) (units : new.units ≡ old.units)
+      (traffic : MatchOption (slice_get old.traffic.sessions n) (new.traffic ≡ old.traffic)
+      (λ x. IsAgain (send count) is_late old.traffic n x new.traffic)) where
+    abbrev Again : (ℕ → List Entry) → Option Session → Scene → Type 0
+    Again past o to =
+        MatchOption o (to ≡ scene past old.traffic)
+        (λ x. (t : Traffic) × IsAgain (send (count_at (scene past old.traffic) x)) is_late old.traffic n x t
+        × (to ≡ with_traffic (scene past old.traffic) t))
+
+    went : (opening : ℕ → UnitState) (past : ℕ → List Entry) → Standing opening past old → (o : Option Session)
+        → IfSome o (λ x. IsCountAt old x.place count)
+        → MatchOption o (new.traffic ≡ old.traffic) (λ x. IsAgain (send count) is_late old.traffic n x new.traffic)
+        → Again past o (scene past new.traffic)
+    went opening past stands None counted did = ap (λ (t : Traffic). scene past t) did
+    went opening past stands (Some x) counted did = (
+      new.traffic,
+      subst (λ (m : ℕ). IsAgain (send m) is_late old.traffic n x new.traffic)
+          (count_is opening past old x.place count stands counted) did,
+      refl,
+    )
+
+    pub again_goes : ((opening : ℕ → UnitState) (past : ℕ → List Entry)
+        → Again past (slice_get old.traffic.sessions n) (scene past new.traffic)
+        → Step old opening past event (scene past new.traffic))
+        → Does event old new
+    again_goes to =
+        quiet_goes event old new new.traffic units refl
+        (λ opening past stands. to opening past (went opening past stands (slice_get old.traffic.sessions n) is traffic))
 
   -- a unit has one entry more, or shows why not
   module _ (old : World) (k : ℕ) (u new : UnitValue B R O) (there : slice_get old.units k ≡ Some u)

@@ -1,7 +1,7 @@
 -- Each event keeps what carries the order of a world, of the unit at one place.
 use Rattle.std.proofs.Common.{◌≡◌, ◌≢◌, ◌⊎◌, ◌||◌, ⊎_elim, ℕ, ◌+◌, ◌<◌, Bool, true, false, nat_eq, if◌then◌else◌}
-use Rattle.std.proofs.Common.{List, [], ◌∷◌, ◌++◌, length, Some, refl, sym, ap, subst, ◌∙◌, arith}
-use Rattle.std.specs.Prelude.{MatchOption, slice_get, slice_set}
+use Rattle.std.proofs.Common.{List, [], ◌∷◌, ◌++◌, length, Option, Some, None, Result, inl, inr, refl, sym, ap, subst, ◌∙◌, arith}
+use Rattle.std.specs.Prelude.{IsTrue, MatchOption, slice_get, slice_set}
 use Rattle.std.specs.List.{remove}
 use Rattle.std.proofs.lemmas.Option.{slice_get_within}
 use Rattle.unit_lock.specs.declared.machine.Refused.TheVariants.{Gone as IsGone, Moved, NoMemory}
@@ -13,23 +13,33 @@ use Rattle.unit_control.specs.State.{UnitState}
 use Rattle.unit_control.specs.Choice.{Choice}
 use Rattle.unit_control.specs.Entry.{Entry, Attach, Command}
 use Rattle.unit_entries.specs.Histories.{IsToldBehind, command}
+use Rattle.unit_state.specs.History.{IsLegal}
+use Rattle.scsi_types.specs.ReplyValue.{check}
+use Rattle.scsi_types.specs.Sense.{write_error}
+use Rattle.scsi_types.specs.declared.command.Command.{Command as ScsiCommand}
+use Rattle.scsi_types.specs.declared.command.CdbFault.{CdbFault}
+use Rattle.scsi_types.specs.declared.status.Status.{Status}
+use Rattle.scsi_types.specs.declared.status.Status.TheVariants as statuses
+use Rattle.late_flushes.specs.Flushes.{IsTold, IsUnflushed}
 use Rattle.world.specs.Orders.{IsEntryOf, IsNone, IsNoted}
-use Rattle.world.specs.Traffic.{Traffic, IsTakenBack, answered_in, at_stage, attached, begun, begun_again, closed, collected, ended_in}
-use Rattle.world.specs.Traffic.{free, given, given_up, handed_in, heard, in_hand, in_lane, is_closed, is_idle, note_of, noted, posted}
-use Rattle.world.specs.Traffic.{returned_in, submitted, submitted_again, taken_back, waiting, waits_in, with_waiting}
+use Rattle.world.specs.Traffic.{Traffic, IsAgain, IsHanded, IsTakenBack, answered_in, as_asked, at_stage, attached, begun, closed}
+use Rattle.world.specs.Traffic.{collected, ended_in, flush_ended, flush_in, free, given, given_up, handed_in, heard, in_hand, in_lane}
+use Rattle.world.specs.Traffic.{is_closed, is_good, is_idle, note_of, noted, posted, put_off, put_off_heard, replied, returned_in}
+use Rattle.world.specs.Traffic.{settled, submitted, taken_back, told_behind, waiting, waits_in, with_session, with_waiting}
 use Rattle.world.specs.declared.note.Note.{Note}
 use Rattle.world.specs.declared.note.What.{What}
-use Rattle.world.specs.declared.note.What.TheVariants.{Submitted, Replied as HasReply, Busy, Gone}
+use Rattle.world.specs.declared.note.What.TheVariants.{Submitted, FlushBegan, Replied as HasReply, Settled, Busy, Gone}
 use Rattle.unit_events.specs.declared.job.Job.{Job}
 use Rattle.unit_events.specs.declared.job.End.{End}
 use Rattle.unit_events.specs.declared.job.End.TheVariants.{Replied, Refused as IsRefused}
+use Rattle.world.specs.declared.session.Flush.{Flush}
 use Rattle.world.specs.declared.session.Session.{Session}
 use Rattle.world.specs.declared.session.Stage.{Stage}
-use Rattle.world.specs.declared.session.Stage.TheVariants.{Idle, Waits, InLane, Ended, Answered, Returned}
-use Rattle.world.proofs.Lists.{get_last, get_pushed, get_set, longer}
+use Rattle.world.specs.declared.session.Stage.TheVariants.{Idle, Waits, InLane, Ended, Answered, Flushes, Returned}
+use Rattle.world.proofs.Lists.{get_kept, get_last, get_pushed, get_set, longer}
 use Rattle.world.proofs.Sound.{IsOf, IsUnserved, IsHandedIn, EndOk, StageOk, WhatOk, Sound, IsOther}
 use Rattle.world.proofs.Sound.{OnItsWay, session_changes, id_written, apart_written, note_added, entry_added}
-use Rattle.world.proofs.Sound.{stage_kept, counts, counts_or_not, commands_pushed}
+use Rattle.world.proofs.Sound.{stage_kept, commands, counts, counts_or_not, commands_pushed, FlushOk, HasEntry, JobOk, Lasts, settled_at}
 
 on_its_way : (claims : Bool) (s : UnitState) (stage : Stage) (P : Type 0) → P → OnItsWay claims s stage P
 on_its_way claims s Idle P p = tt
@@ -37,7 +47,22 @@ on_its_way claims s (Waits job) P p = p
 on_its_way claims s (InLane job) P p = p
 on_its_way claims s (Ended job end) P p = tt
 on_its_way claims s (Answered job end) P p = tt
+on_its_way claims s (Flushes flush) P p = tt
 on_its_way claims s (Returned job) P p = tt
+
+-- what is handed in for a command
+pub handed_ok : (is_late : Bool) (job handed : Job) → JobOk job → IsHanded is_late job handed → JobOk handed
+handed_ok is_late job handed ok is =
+    ⊎_elim (λ (same : handed ≡ job). subst (λ (j : Job). JobOk j) (sym same) ok)
+    (λ (off : IsTrue is_late × ((served : Result ScsiCommand CdbFault) × IsUnflushed job.asked served × (handed ≡ put_off job served))).
+    subst (λ (j : Job). JobOk j) (sym off.1.2) off.1.1) is
+
+good_is : (status : Status) → is_good status ≡ true → status ≡ statuses.Good
+good_is statuses.Good is = refl
+good_is statuses.CheckCondition is = absurd (cc)
+good_is statuses.Busy is = absurd (cc)
+good_is statuses.ReservationConflict is = absurd (cc)
+good_is statuses.TaskSetFull is = absurd (cc)
 
 module _ (claims : Bool) (s : UnitState) (place : ℕ) (h : List Entry) where
   abbrev pub IsSound : Traffic → Type 0
@@ -67,7 +92,9 @@ module _ (claims : Bool) (s : UnitState) (place : ℕ) (h : List Entry) where
     ended_what : (count : ℕ) (what : What) → IsNone what → IsUnserved h x
         → WhatOk claims s h (t.notes ++ note_of count x what ∷ []) (length t.notes) (note_of count x what) what
     ended_what count Submitted none unserved = absurd none
+    ended_what count FlushBegan none unserved = absurd none
     ended_what count (HasReply job reply at) none unserved = absurd none
+    ended_what count (Settled job told at is_flushed) none unserved = absurd none
     ended_what count Busy none unserved = λ at of. absurd (unserved_none t x at sound unserved of)
     ended_what count Gone none unserved = λ at of. absurd (unserved_none t x at sound unserved of)
 
@@ -89,7 +116,7 @@ module _ (claims : Bool) (s : UnitState) (place : ℕ) (h : List Entry) where
 
     -- a submit was noted, and its command goes on from there
     submit_noted : (count : ℕ) (stage : Stage) → (x.place ≡ place → count ≡ length h) → (x.place ≡ place → IsUnserved h x)
-        → (IsUnserved h x × IsHandedIn h (t.notes ++ note_of count x Submitted ∷ []) x.place x.id x.next
+        → (x.place ≡ place → IsUnserved h x × IsHandedIn h (t.notes ++ note_of count x Submitted ∷ []) x.place x.id x.next
         → StageOk claims s h (t.notes ++ note_of count x Submitted ∷ []) (record x { stage = stage }) stage)
         → IsSound (noted (at_stage t n x stage) (note_of count x Submitted))
     submit_noted count stage is unserved ok =
@@ -99,7 +126,7 @@ module _ (claims : Bool) (s : UnitState) (place : ℕ) (h : List Entry) where
         (λ at. (is at, λ k of. absurd (unserved_none t x k sound (unserved at) of)))
         (λ m y other at. on_its_way claims s y.stage (IsOther claims s note y) (λ no unit id serial. absurd no)) in
         session_changes claims s place h t.sessions (t.notes ++ note ∷ []) n x (record x { stage = stage }) told there refl refl
-        (λ at. ok (
+        (λ at. ok at (
           unserved at,
           record {
             place = length t.notes;
@@ -119,84 +146,95 @@ module _ (claims : Bool) (s : UnitState) (place : ℕ) (h : List Entry) where
         ))
 
     handed : (count : ℕ) (job : Job) (full : Bool) → (x.place ≡ place → count ≡ length h)
-        → (x.place ≡ place → IsUnserved h x)
+        → (x.place ≡ place → IsUnserved h x) → (x.place ≡ place → JobOk job)
         → IsSound (if full
         then given_up count t n x Busy
         else with_waiting (noted (at_stage t n x (Waits job)) (note_of count x Submitted)) job.by_group
         (waiting t job.by_group ++ n ∷ []))
-    handed count job true is unserved = sound_given_up count Busy tt is unserved
-    handed count job false is unserved =
+    handed count job true is unserved ok = sound_given_up count Busy tt is unserved
+    handed count job false is unserved ok =
         sound_waiting (noted (at_stage t n x (Waits job)) (note_of count x Submitted)) job.by_group
-        (waiting t job.by_group ++ n ∷ []) (submit_noted count (Waits job) is unserved (λ p. p))
+        (waiting t job.by_group ++ n ∷ []) (submit_noted count (Waits job) is unserved (λ at p. (p.0, p.1, ok at)))
 
     at_once : (count : ℕ) (job : Job) (shut : Bool) → (x.place ≡ place → count ≡ length h)
-        → (x.place ≡ place → IsUnserved h x)
+        → (x.place ≡ place → IsUnserved h x) → (x.place ≡ place → JobOk job)
         → IsSound (if shut
         then given_up count t n x Busy
         else noted (at_stage t n x (InLane job)) (note_of count x Submitted))
-    at_once count job true is unserved = sound_given_up count Busy tt is unserved
-    at_once count job false is unserved = submit_noted count (InLane job) is unserved (λ p. p)
+    at_once count job true is unserved ok = sound_given_up count Busy tt is unserved
+    at_once count job false is unserved ok = submit_noted count (InLane job) is unserved (λ at p. (p.0, p.1, ok at))
 
     pub sound_in_hand : (count : ℕ) (job : Job) → (x.place ≡ place → count ≡ length h)
-        → (x.place ≡ place → IsUnserved h x) → IsSound (in_hand count t n x job)
-    sound_in_hand count job is unserved = at_once count job (is_closed t job.by_group) is unserved
+        → (x.place ≡ place → IsUnserved h x) → (x.place ≡ place → JobOk job) → IsSound (in_hand count t n x job)
+    sound_in_hand count job is unserved ok = at_once count job (is_closed t job.by_group) is unserved ok
 
     pub sound_handed_in : (count : ℕ) (job : Job) → (x.place ≡ place → count ≡ length h)
-        → (x.place ≡ place → IsUnserved h x) → IsSound (handed_in count t n x job)
-    sound_handed_in count job is unserved = handed count job (is_closed t job.by_group || nat_eq (length (waiting t job.by_group)) 64) is unserved
+        → (x.place ≡ place → IsUnserved h x) → (x.place ≡ place → JobOk job) → IsSound (handed_in count t n x job)
+    sound_handed_in count job is unserved ok =
+        handed count job (is_closed t job.by_group || nat_eq (length (waiting t job.by_group)) 64) is unserved ok
 
     -- by the stage of its command
     stage_is : (stage : Stage) → x.stage ≡ stage → x.place ≡ place → StageOk claims s h t.notes x stage
     stage_is stage is at = subst (λ (z : Stage). StageOk claims s h t.notes x z) is (sound.stage n x there at)
 
     idle_or_not : (count : ℕ) (job : Job) (stage : Stage) → x.stage ≡ stage → (x.place ≡ place → count ≡ length h)
+        → (x.place ≡ place → JobOk job)
         → IsSound (if is_idle stage then handed_in count t n x job else t)
-    idle_or_not count job Idle is c = sound_handed_in count job c (λ at. stage_is Idle is at)
-    idle_or_not count job (Waits other) is c = sound
-    idle_or_not count job (InLane other) is c = sound
-    idle_or_not count job (Ended other end) is c = sound
-    idle_or_not count job (Answered other end) is c = sound
-    idle_or_not count job (Returned other) is c = sound
+    idle_or_not count job Idle is c ok = sound_handed_in count job c (λ at. stage_is Idle is at) ok
+    idle_or_not count job (Waits other) is c ok = sound
+    idle_or_not count job (InLane other) is c ok = sound
+    idle_or_not count job (Ended other end) is c ok = sound
+    idle_or_not count job (Answered other end) is c ok = sound
+    idle_or_not count job (Flushes flush) is c ok = sound
+    idle_or_not count job (Returned other) is c ok = sound
 
     pub sound_submitted : (count : ℕ) (job : Job) → (x.place ≡ place → count ≡ length h)
+        → (x.place ≡ place → JobOk job)
         → IsSound (submitted count t n x job)
-    sound_submitted count job c = idle_or_not count job x.stage refl c
-
-    returned_or_not : (count : ℕ) (stage : Stage) → x.stage ≡ stage → (x.place ≡ place → count ≡ length h)
-        → IsSound (given t (returned_in stage) (λ job. handed_in count t n x job))
-    returned_or_not count Idle is c = sound
-    returned_or_not count (Waits job) is c = sound
-    returned_or_not count (InLane job) is c = sound
-    returned_or_not count (Ended job end) is c = sound
-    returned_or_not count (Answered job end) is c = sound
-    returned_or_not count (Returned job) is c = sound_handed_in count job c (λ at. stage_is (Returned job) is at)
-
-    pub sound_submitted_again : (count : ℕ) → (x.place ≡ place → count ≡ length h) → IsSound (submitted_again count t n x)
-    sound_submitted_again count c = returned_or_not count x.stage refl c
+    sound_submitted count job c ok = idle_or_not count job x.stage refl c ok
 
     begun_or_not : (count : ℕ) (job : Job) (stage : Stage) → x.stage ≡ stage → (x.place ≡ place → count ≡ length h)
+        → (x.place ≡ place → JobOk job)
         → IsSound (if is_idle stage then in_hand count t n x job else t)
-    begun_or_not count job Idle is c = sound_in_hand count job c (λ at. stage_is Idle is at)
-    begun_or_not count job (Waits other) is c = sound
-    begun_or_not count job (InLane other) is c = sound
-    begun_or_not count job (Ended other end) is c = sound
-    begun_or_not count job (Answered other end) is c = sound
-    begun_or_not count job (Returned other) is c = sound
+    begun_or_not count job Idle is c ok = sound_in_hand count job c (λ at. stage_is Idle is at) ok
+    begun_or_not count job (Waits other) is c ok = sound
+    begun_or_not count job (InLane other) is c ok = sound
+    begun_or_not count job (Ended other end) is c ok = sound
+    begun_or_not count job (Answered other end) is c ok = sound
+    begun_or_not count job (Flushes flush) is c ok = sound
+    begun_or_not count job (Returned other) is c ok = sound
 
-    pub sound_begun : (count : ℕ) (job : Job) → (x.place ≡ place → count ≡ length h) → IsSound (begun count t n x job)
-    sound_begun count job c = begun_or_not count job x.stage refl c
+    pub sound_begun : (count : ℕ) (job : Job) → (x.place ≡ place → count ≡ length h)
+        → (x.place ≡ place → JobOk job) → IsSound (begun count t n x job)
+    sound_begun count job c ok = begun_or_not count job x.stage refl c ok
 
-    begun_again_or_not : (count : ℕ) (stage : Stage) → x.stage ≡ stage → (x.place ≡ place → count ≡ length h)
-        → IsSound (given t (returned_in stage) (λ job. in_hand count t n x job))
-    begun_again_or_not count Idle is c = sound
-    begun_again_or_not count (Waits job) is c = sound
-    begun_again_or_not count (InLane job) is c = sound
-    begun_again_or_not count (Ended job end) is c = sound
-    begun_again_or_not count (Answered job end) is c = sound
-    begun_again_or_not count (Returned job) is c = sound_in_hand count job c (λ at. stage_is (Returned job) is at)
+    -- a command that came to Moved goes on once more
+    abbrev Sent : (Traffic → ℕ → Session → Job → Traffic) → Bool → Traffic → Job → Type 0
+    Sent send is_late new job = (handed : Job) × IsHanded is_late job handed × (new ≡ send t n x handed)
 
-    pub sound_begun_again : (count : ℕ) → (x.place ≡ place → count ≡ length h) → IsSound (begun_again count t n x)
-    sound_begun_again count c = begun_again_or_not count x.stage refl c
+    again_or_not : (send : Traffic → ℕ → Session → Job → Traffic) (is_late : Bool) (new : Traffic) (stage : Stage) → x.stage ≡ stage
+        → ((job : Job) → (x.place ≡ place → IsUnserved h x) → (x.place ≡ place → JobOk job) → IsSound (send t n x job))
+        → MatchOption (returned_in stage) (new ≡ t) (Sent send is_late new) → IsSound new
+    again_or_not send is_late new Idle is sends did = subst IsSound (sym did) sound
+    again_or_not send is_late new (Waits job) is sends did = subst IsSound (sym did) sound
+    again_or_not send is_late new (InLane job) is sends did = subst IsSound (sym did) sound
+    again_or_not send is_late new (Ended job end) is sends did = subst IsSound (sym did) sound
+    again_or_not send is_late new (Answered job end) is sends did = subst IsSound (sym did) sound
+    again_or_not send is_late new (Flushes flush) is sends did = subst IsSound (sym did) sound
+    again_or_not send is_late new (Returned job) is sends did =
+        subst IsSound (sym did.2)
+        (sends did.0 (λ at. (stage_is (Returned job) is at).0)
+        (λ at. handed_ok is_late job did.0 (stage_is (Returned job) is at).1 did.1))
+
+    pub sound_submitted_again : (count : ℕ) (is_late : Bool) (new : Traffic) → (x.place ≡ place → count ≡ length h)
+        → IsAgain (handed_in count) is_late t n x new → IsSound new
+    sound_submitted_again count is_late new c did =
+        again_or_not (handed_in count) is_late new x.stage refl (λ job unserved ok. sound_handed_in count job c unserved ok) did
+
+    pub sound_begun_again : (count : ℕ) (is_late : Bool) (new : Traffic) → (x.place ≡ place → count ≡ length h)
+        → IsAgain (in_hand count) is_late t n x new → IsSound new
+    sound_begun_again count is_late new c did =
+        again_or_not (in_hand count) is_late new x.stage refl (λ job unserved ok. sound_in_hand count job c unserved ok) did
 
     abbrev Back : Traffic → Job → Type 0
     Back new job = ((at : ℕ) × (slice_get (waiting t job.by_group) at ≡ Some n) × (new ≡ taken_back t n x job at))
@@ -216,6 +254,7 @@ module _ (claims : Bool) (s : UnitState) (place : ℕ) (h : List Entry) where
     back_or_not new (InLane job) is did = subst IsSound (sym did) sound
     back_or_not new (Ended job end) is did = subst IsSound (sym did) sound
     back_or_not new (Answered job end) is did = subst IsSound (sym did) sound
+    back_or_not new (Flushes flush) is did = subst IsSound (sym did) sound
     back_or_not new (Returned job) is did = subst IsSound (sym did) sound
 
     pub sound_taken_back : (new : Traffic) → IsTakenBack t n x new → IsSound new
@@ -227,6 +266,7 @@ module _ (claims : Bool) (s : UnitState) (place : ℕ) (h : List Entry) where
     waits_or_not (InLane job) is = sound
     waits_or_not (Ended job end) is = sound
     waits_or_not (Answered job end) is = sound
+    waits_or_not (Flushes flush) is = sound
     waits_or_not (Returned job) is = sound
 
     pub sound_in_lane : IsSound (in_lane t n x)
@@ -239,52 +279,195 @@ module _ (claims : Bool) (s : UnitState) (place : ℕ) (h : List Entry) where
     ended_or_not (InLane job) is = sound
     ended_or_not (Ended job end) is = to_stage (Answered job end) (λ at. stage_is (Ended job end) is at)
     ended_or_not (Answered job end) is = sound
+    ended_or_not (Flushes flush) is = sound
     ended_or_not (Returned job) is = sound
 
     pub sound_posted : IsSound (posted t n x)
     sound_posted = ended_or_not x.stage refl
 
-    sound_replied : (count : ℕ) (job : Job) (reply : ReplyValue) (k next : ℕ) → (x.place ≡ place → count ≡ length h)
-        → (x.place ≡ place → EndOk claims s h x job (Replied reply k next))
-        → IsSound (heard count t n x job (Replied reply k next))
-    sound_replied count job reply k next is ok =
+    -- a session is told what its command came to
+    told_so : (count next : ℕ) (what : What) → (IsNone what → ⊥) → (x.place ≡ place → count ≡ length h)
+        → (x.place ≡ place → (commands x.id h ≡ x.next) × (next ≡ x.next + 1))
+        → (x.place ≡ place → WhatOk claims s h (t.notes ++ note_of count x what ∷ []) (length t.notes) (note_of count x what) what)
+        → IsSound (noted (with_session t n (free x next)) (note_of count x what))
+    told_so count next what some is counts_of ok =
         let new = free x next in
-        let note = note_of count x (HasReply job reply k) in
+        let note = note_of count x what in
         let idle = session_changes claims s place h t.sessions t.notes n x new sound there refl refl
-        (λ at. ap (λ (m : ℕ). m + 1) (ok at).0 ∙ sym (ok at).1) in
-        note_added claims s place h (slice_set t.sessions n new) t.notes note idle
-        (λ at.
-        let lt = slice_get_within h k (ok at).2.entry (ok at).2.there in
-        let c = is at in (c, (omega arith, (ok at).2)))
-        (λ m y other at. on_its_way claims s y.stage (IsOther claims s note y) (λ no unit id serial. absurd no))
+        (λ at. ap (λ (m : ℕ). m + 1) (counts_of at).0 ∙ sym (counts_of at).1) in
+        note_added claims s place h (slice_set t.sessions n new) t.notes note idle (λ at. (is at, ok at))
+        (λ m y other at. on_its_way claims s y.stage (IsOther claims s note y) (λ no unit id serial. absurd (some no)))
+
+    -- the entry stands before the note
+    entry_before : (count k : ℕ) (by : Group) (asked : Result ScsiCommand CdbFault) (bytes : List ℕ) (reply : ReplyValue)
+        → count ≡ length h → HasEntry claims s h x.id x.next by asked bytes reply k → k < count
+    entry_before count k by asked bytes reply is ok =
+        let lt = slice_get_within h k ok.entry ok.there in let c = is in omega arith
+
+    -- in place of the reply of its entry
+    abbrev HasServedSo : Job → Result ScsiCommand CdbFault → ReplyValue → ℕ → ℕ → Type 0
+    HasServedSo job served reply k next =
+        (commands x.id h ≡ x.next) × (next ≡ x.next + 1)
+        × HasEntry claims s h x.id x.next job.by_group served job.bytes reply k × IsUnflushed job.asked served
+
+    sound_settled : (count : ℕ) (job : Job) (reply told : ReplyValue) (k next : ℕ) (is_flushed : Bool) → IsLegal claims s h
+        → (x.place ≡ place → count ≡ length h)
+        → (x.place ≡ place → (served : Result ScsiCommand CdbFault) × HasServedSo job served reply k next)
+        → (x.place ≡ place → IsTold (Lasts claims s (t.notes ++ note_of count x (Settled job told k is_flushed) ∷ []) (length t.notes)
+        (note_of count x (Settled job told k is_flushed)) k is_flushed) reply told)
+        → IsSound (settled count t n x job told k next is_flushed)
+    sound_settled count job reply told k next is_flushed legal is ok ended =
+        let note = note_of count x (Settled job told k is_flushed) in
+        told_so count next (Settled job told k is_flushed) (λ no. no) is (λ at. ((ok at).1.0, (ok at).1.1))
+        (λ at. (
+          entry_before count k job.by_group (ok at).0 job.bytes reply (is at) (ok at).1.2,
+          settled_at claims (Lasts claims s (t.notes ++ note ∷ []) (length t.notes) note k is_flushed) s h x.id x.next job (ok at).0 reply
+              told k legal (ok at).1.3 (ok at).1.2 (ended at),
+        ))
+
+    -- a flush begins behind it
+    flush_begun : (count : ℕ) (flush : Flush) → (x.place ≡ place → count ≡ length h)
+        → (x.place ≡ place → (served : Result ScsiCommand CdbFault) × HasServedSo flush.job served flush.reply flush.place flush.next)
+        → flush.reply.status ≡ statuses.Good
+        → IsSound (noted (at_stage t n x (Flushes flush)) (note_of count x FlushBegan))
+    flush_begun count flush is ok good =
+        let note = note_of count x FlushBegan in
+        let told : Sound claims s place h t.sessions (t.notes ++ note ∷ []) =
+        note_added claims s place h t.sessions t.notes note sound (λ at. (is at, tt))
+        (λ m y other at. on_its_way claims s y.stage (IsOther claims s note y) (λ no unit id serial. absurd no)) in
+        session_changes claims s place h t.sessions (t.notes ++ note ∷ []) n x (record x { stage = Flushes flush }) told there refl refl
+        (λ at. record {
+          served = (ok at).0;
+          unflushed = (ok at).1.3;
+          count = (ok at).1.0;
+          next = (ok at).1.1;
+          entry = (ok at).1.2;
+          good = good;
+          began = (
+            length t.notes,
+            note,
+            get_last t.notes note,
+            refl,
+            refl,
+            refl,
+            refl,
+            entry_before count flush.place flush.job.by_group (ok at).0 flush.job.bytes flush.reply (is at) (ok at).1.2,
+          );
+        })
+
+    put_off_or_not : (count : ℕ) (job : Job) (reply : ReplyValue) (k next : ℕ) (good : Bool) → is_good reply.status ≡ good
+        → IsLegal claims s h → (x.place ≡ place → count ≡ length h)
+        → (x.place ≡ place → (served : Result ScsiCommand CdbFault) × HasServedSo job served reply k next)
+        → IsSound (if good
+        then noted (at_stage t n x (Flushes (record { job = job; reply = reply; place = k; next = next })))
+        (note_of count x FlushBegan)
+        else settled count t n x job reply k next false)
+    put_off_or_not count job reply k next true is_so legal is ok =
+        flush_begun count (record { job = job; reply = reply; place = k; next = next }) is ok (good_is reply.status is_so)
+    put_off_or_not count job reply k next false is_so legal is ok =
+        sound_settled count job reply reply k next false legal is ok
+        (λ at. inl (
+          refl,
+          λ (good : reply.status ≡ statuses.Good).
+              let yes : is_good reply.status ≡ true = ap is_good good in absurd (cc),
+        ))
+
+    sound_replied : (count : ℕ) (job : Job) (late : Option (Result ScsiCommand CdbFault)) → job.late ≡ late → (reply : ReplyValue)
+        (k next : ℕ) → IsLegal claims s h → (x.place ≡ place → count ≡ length h)
+        → (x.place ≡ place → EndOk claims s h x job (Replied reply k next))
+        → IsSound (replied count t n x job late reply k next)
+    sound_replied count job None is_late reply k next legal is ok =
+        told_so count next (HasReply job reply k) (λ no. no) is (λ at. ((ok at).0, (ok at).1))
+        (λ at. (entry_before count k job.by_group job.asked job.bytes reply (is at) (ok at).2, (ok at).2))
+    sound_replied count job (Some asked) is_late reply k next legal is ok =
+        put_off_or_not count (record job { asked = asked; late = None }) reply k next (is_good reply.status) refl legal is
+        (λ at. (
+          job.asked,
+          (
+            (ok at).0,
+            (ok at).1,
+            (ok at).2,
+            subst (λ (o : Option (Result ScsiCommand CdbFault)). MatchOption o (Unit {0}) (λ a. IsUnflushed a job.asked)) is_late
+                (ok at).3,
+          ),
+        ))
 
     sound_moved : (count : ℕ) (job : Job) (to : Group) (second : Bool) → (x.place ≡ place → count ≡ length h)
         → (x.place ≡ place → IsUnserved h x)
         → IsSound (if second
         then given_up count t n x Busy
-        else at_stage t n x (Returned (record job { by_group = to; is_second = true })))
+        else at_stage t n x (Returned (record (as_asked job) { by_group = to; is_second = true })))
     sound_moved count job to true is unserved = sound_given_up count Busy tt is unserved
     sound_moved count job to false is unserved =
-        to_stage (Returned (record job { by_group = to; is_second = true })) unserved
+        to_stage (Returned (record (as_asked job) { by_group = to; is_second = true })) (λ at. (unserved at, tt))
 
-    sound_heard : (count : ℕ) (job : Job) (end : End) → (x.place ≡ place → count ≡ length h)
+    sound_heard : (count : ℕ) (job : Job) (end : End) → IsLegal claims s h → (x.place ≡ place → count ≡ length h)
         → (x.place ≡ place → EndOk claims s h x job end) → IsSound (heard count t n x job end)
-    sound_heard count job (Replied reply k next) is ok = sound_replied count job reply k next is ok
-    sound_heard count job (IsRefused IsGone) is ok = sound_given_up count Gone tt is ok
-    sound_heard count job (IsRefused NoMemory) is ok = sound_given_up count Busy tt is ok
-    sound_heard count job (IsRefused (Moved to)) is ok = sound_moved count job to job.is_second is ok
+    sound_heard count job (Replied reply k next) legal is ok = sound_replied count job job.late refl reply k next legal is ok
+    sound_heard count job (IsRefused IsGone) legal is ok = sound_given_up count Gone tt is ok
+    sound_heard count job (IsRefused NoMemory) legal is ok = sound_given_up count Busy tt is ok
+    sound_heard count job (IsRefused (Moved to)) legal is ok = sound_moved count job to job.is_second is ok
 
-    answered_or_not : (count : ℕ) (stage : Stage) → x.stage ≡ stage → (x.place ≡ place → count ≡ length h)
+    answered_or_not : (count : ℕ) (stage : Stage) → x.stage ≡ stage → IsLegal claims s h → (x.place ≡ place → count ≡ length h)
         → IsSound (given t (answered_in stage) (λ a. heard count t n x a.0 a.1))
-    answered_or_not count Idle is c = sound
-    answered_or_not count (Waits job) is c = sound
-    answered_or_not count (InLane job) is c = sound
-    answered_or_not count (Ended job end) is c = sound
-    answered_or_not count (Answered job end) is c = sound_heard count job end c (λ at. stage_is (Answered job end) is at)
-    answered_or_not count (Returned job) is c = sound
+    answered_or_not count Idle is legal c = sound
+    answered_or_not count (Waits job) is legal c = sound
+    answered_or_not count (InLane job) is legal c = sound
+    answered_or_not count (Ended job end) is legal c = sound
+    answered_or_not count (Answered job end) is legal c =
+        sound_heard count job end legal c (λ at. stage_is (Answered job end) is at)
+    answered_or_not count (Flushes flush) is legal c = sound
+    answered_or_not count (Returned job) is legal c = sound
 
-    pub sound_collected : (count : ℕ) → (x.place ≡ place → count ≡ length h) → IsSound (collected count t n x)
-    sound_collected count c = answered_or_not count x.stage refl c
+    pub sound_collected : (count : ℕ) → IsLegal claims s h → (x.place ≡ place → count ≡ length h) → IsSound (collected count t n x)
+    sound_collected count legal c = answered_or_not count x.stage refl legal c
+
+    -- the flush behind its command ends
+    ended_so : (count : ℕ) (flush : Flush) (is_done : Bool) → count ≡ length h
+        → FlushOk claims s h t.notes x.place x.id x.next flush
+        → IsTold (Lasts claims s
+        (t.notes ++ note_of count x (Settled flush.job (told_behind is_done flush.reply) flush.place is_done) ∷ []) (length t.notes)
+        (note_of count x (Settled flush.job (told_behind is_done flush.reply) flush.place is_done)) flush.place is_done) flush.reply
+        (told_behind is_done flush.reply)
+    ended_so count flush true is ok =
+        let b = ok.began in
+        inl (
+          refl,
+          λ (good : flush.reply.status ≡ statuses.Good). (
+            refl,
+            (
+              b.0,
+              b.1,
+              slice_get_within t.notes b.0 b.1 b.2,
+              get_kept t.notes (note_of count x (Settled flush.job flush.reply flush.place true)) b.0 b.1 b.2,
+              b.3,
+              (b.4, b.5),
+              b.6,
+              b.7,
+            ),
+          ),
+        )
+    ended_so count flush false is ok = inr (ok.good, refl)
+
+    flushes_or_not : (count : ℕ) (is_done : Bool) (stage : Stage) → x.stage ≡ stage → IsLegal claims s h
+        → (x.place ≡ place → count ≡ length h)
+        → IsSound (given t (flush_in stage)
+        (λ f. settled count t n x f.job (told_behind is_done f.reply) f.place f.next is_done))
+    flushes_or_not count is_done Idle is legal c = sound
+    flushes_or_not count is_done (Waits job) is legal c = sound
+    flushes_or_not count is_done (InLane job) is legal c = sound
+    flushes_or_not count is_done (Ended job end) is legal c = sound
+    flushes_or_not count is_done (Answered job end) is legal c = sound
+    flushes_or_not count is_done (Returned job) is legal c = sound
+    flushes_or_not count is_done (Flushes f) is legal c =
+        let ok = stage_is (Flushes f) is in
+        sound_settled count f.job f.reply (told_behind is_done f.reply) f.place f.next is_done legal c
+        (λ at. ((ok at).served, ((ok at).count, (ok at).next, (ok at).entry, (ok at).unflushed)))
+        (λ at. ended_so count f is_done (c at) (ok at))
+
+    pub sound_flush_ended : (count : ℕ) (is_done : Bool) → IsLegal claims s h → (x.place ≡ place → count ≡ length h)
+        → IsSound (flush_ended count t n x is_done)
+    sound_flush_ended count is_done legal c = flushes_or_not count is_done x.stage refl legal c
 
     -- a lane's answer where its unit added no entry
     pub sound_ended : (job : Job) (end : End) → (x.place ≡ place → EndOk claims s h x job end)
@@ -293,7 +476,7 @@ module _ (claims : Bool) (s : UnitState) (place : ℕ) (h : List Entry) where
 
     -- and where it added one
     module _ (job : Job) (reply : ReplyValue) (choice : Choice) (at : x.place ≡ place) (unserved : IsUnserved h x)
-        (handed_over : IsHandedIn h t.notes x.place x.id x.next) where
+        (handed_over : IsHandedIn h t.notes x.place x.id x.next) (put : JobOk job) where
       abbrev e : Entry
       e = Command x.id x.next job.by_group job.asked job.bytes choice
 
@@ -340,6 +523,7 @@ module _ (claims : Bool) (s : UnitState) (place : ℕ) (h : List Entry) where
                 omega arith,
             refl,
             record { entry = e; there = get_last h e; is = (choice, refl); replies = told },
+            put,
           ))
           (λ (o : (n ≢ m) × (slice_get t.sessions m ≡ Some y)).
           stage_kept claims s h e t.notes y y.stage

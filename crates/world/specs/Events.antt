@@ -10,8 +10,8 @@ use Rattle.unit_state.specs.Serials.{IsOpening}
 use Rattle.unit_state.specs.declared.unit.MoveFault.{MoveFault}
 use Rattle.unit_entries.specs.Histories.{IsHistory, IsToldBehind}
 use Rattle.unit_entries.specs.Causes.{IsFull, IsGone, IsOwner, IsStay, WantsMemory}
-use Rattle.world.specs.Traffic.{Traffic, at_stage, attached, begun, begun_again, closed, given, collected, new_job, no_traffic}
-use Rattle.world.specs.Traffic.{IsTakenBack, posted, submitted, submitted_again, taken}
+use Rattle.world.specs.Traffic.{Traffic, at_stage, attached, begun, closed, given, collected, flush_ended, new_job, no_traffic}
+use Rattle.world.specs.Traffic.{IsBegunAgain, IsHanded, IsSubmittedAgain, IsTakenBack, posted, submitted, taken}
 use Rattle.world.specs.declared.event.Event.{Event}
 use Rattle.world.specs.declared.event.Event.TheVariants as events
 use Rattle.unit_events.specs.declared.job.Job.{Job}
@@ -19,7 +19,7 @@ use Rattle.unit_events.specs.declared.job.End.{End}
 use Rattle.unit_events.specs.declared.job.End.TheVariants.{Replied, Refused as IsRefused}
 use Rattle.world.specs.declared.session.Session.{Session}
 use Rattle.world.specs.declared.session.Stage.{Stage}
-use Rattle.world.specs.declared.session.Stage.TheVariants.{Idle, Waits, InLane, Ended, Answered, Returned}
+use Rattle.world.specs.declared.session.Stage.TheVariants.{Idle, Waits, InLane, Ended, Answered, Flushes, Returned}
 
 -- where the world stands: the history of each unit, by its place, and what is on its way
 pub record Scene : Type 0 where
@@ -71,6 +71,7 @@ module _ (claims : Bool) (units : ℕ) (opening : ℕ → UnitState) where
       ⊎ ((units ≤ x.place) × (new ≡ w))
   IsServing w n x (Ended job end) new = new ≡ w
   IsServing w n x (Answered job end) new = new ≡ w
+  IsServing w n x (Flushes flush) new = new ≡ w
   IsServing w n x (Returned job) new = new ≡ w
 
   -- The step of each event. What can't happen changes nothing.
@@ -87,18 +88,20 @@ module _ (claims : Bool) (units : ℕ) (opening : ℕ → UnitState) where
   IsStep w (events.Move place list) new =
       IsEntry w place (Move list Fine) w.traffic
       ((why : MoveFault) × IsStay (opening place) (w.past place) list why) new
-  IsStep w (events.Submit n by_group asked bytes) new =
-      new ≡ with_traffic w (given w.traffic (slice_get w.traffic.sessions n)
-      (λ x. submitted (count_at w x) w.traffic n x (new_job by_group asked bytes)))
-  IsStep w (events.SubmitAgain n) new =
-      new ≡ with_traffic w (given w.traffic (slice_get w.traffic.sessions n)
-      (λ x. submitted_again (count_at w x) w.traffic n x))
-  IsStep w (events.Begin n by_group asked bytes) new =
-      new ≡ with_traffic w (given w.traffic (slice_get w.traffic.sessions n)
-      (λ x. begun (count_at w x) w.traffic n x (new_job by_group asked bytes)))
-  IsStep w (events.BeginAgain n) new =
-      new ≡ with_traffic w (given w.traffic (slice_get w.traffic.sessions n)
-      (λ x. begun_again (count_at w x) w.traffic n x))
+  IsStep w (events.Submit n by_group asked bytes is_late) new =
+      (job : Job) × IsHanded is_late (new_job by_group asked bytes) job
+      × (new ≡ with_traffic w (given w.traffic (slice_get w.traffic.sessions n)
+      (λ x. submitted (count_at w x) w.traffic n x job)))
+  IsStep w (events.SubmitAgain n is_late) new =
+      MatchOption (slice_get w.traffic.sessions n) (new ≡ w)
+      (λ x. (t : Traffic) × IsSubmittedAgain (count_at w x) is_late w.traffic n x t × (new ≡ with_traffic w t))
+  IsStep w (events.Begin n by_group asked bytes is_late) new =
+      (job : Job) × IsHanded is_late (new_job by_group asked bytes) job
+      × (new ≡ with_traffic w (given w.traffic (slice_get w.traffic.sessions n)
+      (λ x. begun (count_at w x) w.traffic n x job)))
+  IsStep w (events.BeginAgain n is_late) new =
+      MatchOption (slice_get w.traffic.sessions n) (new ≡ w)
+      (λ x. (t : Traffic) × IsBegunAgain (count_at w x) is_late w.traffic n x t × (new ≡ with_traffic w t))
   IsStep w (events.TakeBack n) new =
       MatchOption (slice_get w.traffic.sessions n) (new ≡ w)
       (λ x. (t : Traffic) × IsTakenBack w.traffic n x t × (new ≡ with_traffic w t))
@@ -111,6 +114,9 @@ module _ (claims : Bool) (units : ℕ) (opening : ℕ → UnitState) where
   IsStep w (events.Collect n) new =
       new ≡ with_traffic w (given w.traffic (slice_get w.traffic.sessions n)
       (λ x. collected (count_at w x) w.traffic n x))
+  IsStep w (events.EndFlush n is_done) new =
+      new ≡ with_traffic w (given w.traffic (slice_get w.traffic.sessions n)
+      (λ x. flush_ended (count_at w x) w.traffic n x is_done))
 
   -- the steps of a list of events, one behind the other
   abbrev pub AreSteps : Scene → List Event → Scene → Type 0

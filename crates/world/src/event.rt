@@ -25,16 +25,19 @@ pub enum Event {
         place: usize,
         list: Bytes,
     },
-    /// A session that has no command on its way hands one in at the desk of a group.
+    /// A session that has no command on its way hands one in at the desk of a group. Where flushes are left to come behind their
+    /// commands (`is_late`), the unit is asked the command without its own.
     Submit {
         session: usize,
         by_group: Group,
         asked: Asked,
         bytes: Bytes,
+        is_late: bool,
     },
     /// A session whose command came to Moved hands it in once more, at the desk of the group that this named.
     SubmitAgain {
         session: usize,
+        is_late: bool,
     },
     /// A session that has no command on its way has its worker serve one at once, past those that wait at the desk of a group: its
     /// data is long, few others are served so, or there was no memory for a job.
@@ -43,10 +46,12 @@ pub enum Event {
         by_group: Group,
         asked: Asked,
         bytes: Bytes,
+        is_late: bool,
     },
     /// A session whose command came to Moved has its worker serve it at once, past those that wait at the desk that this named.
     BeginAgain {
         session: usize,
+        is_late: bool,
     },
     /// A session's worker takes its job back from the desk where it waits, to serve it itself.
     TakeBack {
@@ -68,8 +73,13 @@ pub enum Event {
     Post {
         session: usize,
     },
-    /// A session collects its answer.
+    /// A session collects its answer. Behind GOOD of a command whose flush was left off, that flush begins.
     Collect {
         session: usize,
+    },
+    /// The flush behind a session's command ends: it was done, or it has failed. The session has its reply.
+    EndFlush {
+        session: usize,
+        is_done: bool,
     },
 }

@@ -5,6 +5,8 @@
 
 mod desk;
 mod event;
+mod hearing;
+mod late;
 mod note;
 mod records;
 mod session;
@@ -12,5 +14,5 @@ mod world;
 
 pub use event::Event;
 pub use note::{Note, What};
-pub use session::{Session, Stage};
+pub use session::{Flush, Session, Stage};
 pub use world::World;

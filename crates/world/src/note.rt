@@ -7,15 +7,21 @@ use unit_events::Job;
 pub enum What {
     /// It submitted its command, or submitted it once more.
     Submitted,
+    /// It collected the GOOD of what its unit was asked in place of its command, and a flush began behind that.
+    FlushBegan,
     /// It collected this reply to this job, which is that of the entry at this place of the unit's history.
     Replied(Job, Reply, u64),
+    /// It was told this of its command, whose flush was left to come behind it. The job is the command as it was asked. The entry at
+    /// this place of the unit's history is that of the command without its flush. Whether a flush was done behind it.
+    Settled(Job, Reply, u64, bool),
     /// Its command ended in BUSY: the desk was full, there was no memory for its reply, or the unit had moved a second time.
     Busy,
     /// Its session was gone.
     Gone,
 }
 
-/// A submit or a collect: of which unit and session, the serial of the command, and how many entries the unit's history had.
+/// A submit, a collect, or the end of a flush: of which unit and session, the serial of the command, and how many entries the unit's
+/// history had.
 #[derive(Drop)]
 pub struct Note {
     pub place: usize,

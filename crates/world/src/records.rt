@@ -2,19 +2,17 @@
 ghost use Rattle.std.specs.Prelude.{◌≡◌, ◌<◌, ◌∷◌, [], ℕ, Some, length, slice_get, OnOk, IfOk, IfSome, IfNone, MatchOption, if◌then◌else◌};
 ghost use Rattle.std.specs.List.{remove};
 ghost use Rattle.world.specs.Records.{HasRoom, sent, traffic_of, turned};
-ghost use Rattle.world.specs.Traffic.{at_stage, attached, closed, collected, ended, given, given_up, handed_in, heard};
-ghost use Rattle.world.specs.Traffic.{IsTakenBack, in_hand, in_lane, is_closed, is_idle, no_traffic, note_of, posted, returned_in};
+ghost use Rattle.world.specs.Traffic.{at_stage, attached, closed, ended, given, given_up, handed_in};
+ghost use Rattle.world.specs.Traffic.{IsAgain, IsTakenBack, in_hand, in_lane, is_closed, is_idle, no_traffic, note_of, posted};
 ghost use Rattle.world.specs.Traffic.{taken, waiting, with_waiting};
-ghost use Rattle.unit_lock.specs.declared.machine.Refused.TheVariants as causes;
-ghost use Rattle.unit_events.specs.declared.job.End.TheVariants as ends;
 
 use crate::desk::Desk;
+use crate::late::handed;
 use crate::note::{Note, What};
 use crate::session::{Session, Stage, Turn};
 use scsi_types::{Group, NoMemory};
 use std::alloc::Global;
 use unit_events::{End, Job};
-use unit_lock::Refused;
 
 // Who serves a session's command: a lane that takes it from its desk, or the session's worker, which has it in hand.
 #[derive(Clone, Copy)]
@@ -35,7 +33,7 @@ pub(crate) struct Records {
 }
 
 /// What a session does, where its unit has had so many entries.
-fn note_of(session: &Session, count: u64, what: What) -> Note
+pub(crate) fn note_of(session: &Session, count: u64, what: What) -> Note
     ensures { result ≡ note_of count session.now what }
 {
     Note {
@@ -98,7 +96,7 @@ impl Records {
     }
 
     // A session's command ends without a reply.
-    fn give_up(&mut self, n: usize, count: u64, what: What)
+    pub(crate) fn give_up(&mut self, n: usize, count: u64, what: What)
         requires room { HasRoom self.old }
         requires there { n < length self.old.sessions.items }
         ensures { IfSome (slice_get self.old.sessions.items n)
@@ -196,16 +194,16 @@ impl Records {
     }
 
     // Sends a command that came to Moved once more.
-    pub(crate) fn submit_again(&mut self, n: usize, count: u64, way: Way)
+    pub(crate) fn submit_again(&mut self, n: usize, count: u64, way: Way, is_late: bool)
         requires { HasRoom self.old }
-        ensures { traffic_of self.new ≡ given (traffic_of self.old) (slice_get self.old.sessions.items n)
-            (λ x. given (traffic_of self.old) (returned_in x.stage) (λ job. sent way count (traffic_of self.old) n x job)) }
+        ensures { MatchOption (slice_get self.old.sessions.items n) (traffic_of self.new ≡ traffic_of self.old)
+            (λ x. IsAgain (sent way count) is_late (traffic_of self.old) n x (traffic_of self.new)) }
     {
         let Some(session) = self.sessions.get_mut(n) else {
             return;
         };
         if let Some(job) = session.stage.take_returned() {
-            self.send(n, count, way, job);
+            self.send(n, count, way, handed(job, is_late));
         }
     }
 
@@ -303,60 +301,5 @@ impl Records {
             (λ x. posted (traffic_of self.old) n x) }
     {
         self.turn(n, Turn::Post);
-    }
-
-    // A session hears the answer to its job.
-    fn hear(&mut self, n: usize, count: u64, job: Job, end: End)
-        requires room { HasRoom self.old }
-        requires there { n < length self.old.sessions.items }
-        ensures { IfSome (slice_get self.old.sessions.items n)
-            (λ x. traffic_of self.new ≡ heard count (traffic_of self.old) n x job end) }
-    {
-        match end {
-            End::Replied(reply, place, next) => {
-                let session = &mut self.sessions[n];
-                let note = note_of(session, count, What::Replied(job, reply, place));
-                session.next = next;
-                session.go_to(Stage::Idle);
-                self.notes.push_reserved(note);
-            }
-            End::Refused(Refused::Gone) => self.give_up(n, count, What::Gone),
-            End::Refused(Refused::NoMemory) => self.give_up(n, count, What::Busy),
-            End::Refused(Refused::Moved(to)) => self.hear_moved(n, count, job, to),
-        }
-    }
-
-    // It hears that the unit moved.
-    fn hear_moved(&mut self, n: usize, count: u64, job: Job, to: Group)
-        requires room { HasRoom self.old }
-        requires there { n < length self.old.sessions.items }
-        ensures { IfSome (slice_get self.old.sessions.items n)
-            (λ x. traffic_of self.new ≡ heard count (traffic_of self.old) n x job (ends.Refused (causes.Moved to))) }
-    {
-        if job.is_second {
-            self.give_up(n, count, What::Busy);
-            return;
-        }
-        let Job { asked, bytes, .. } = job;
-        self.sessions[n].go_to(Stage::Returned(Job {
-            by_group: to,
-            asked,
-            bytes,
-            is_second: true,
-        }));
-    }
-
-    // A session collects its answer.
-    pub(crate) fn collect(&mut self, n: usize, count: u64)
-        requires { HasRoom self.old }
-        ensures { traffic_of self.new ≡ given (traffic_of self.old) (slice_get self.old.sessions.items n)
-            (λ x. collected count (traffic_of self.old) n x) }
-    {
-        let Some(session) = self.sessions.get_mut(n) else {
-            return;
-        };
-        if let Some((job, end)) = session.stage.take_answered() {
-            self.hear(n, count, job, end);
-        }
     }
 }

@@ -1,9 +1,9 @@
 //! The sessions of a world, and where their commands are.
 ghost use Rattle.std.specs.Prelude.{◌≡◌, IfNone, MatchOption, None};
 ghost use Rattle.world.specs.Records.{turned};
-ghost use Rattle.world.specs.Traffic.{answered_in, is_idle, returned_in, waits_in};
+ghost use Rattle.world.specs.Traffic.{answered_in, flush_in, is_idle, returned_in, waits_in};
 
-use scsi_types::Group;
+use scsi_types::{Group, Reply};
 use std::mem;
 use unit_events::{End, Job};
 
@@ -20,8 +20,23 @@ pub enum Stage {
     Ended(Job, End),
     /// Its answer was posted.
     Answered(Job, End),
+    /// The session collected GOOD, and a flush is on its way behind its command.
+    Flushes(Flush),
     /// The session heard of the first Moved: this is what it is to hand in once more.
     Returned(Job),
+}
+
+/// A command behind which a flush is on its way.
+#[derive(Drop)]
+pub struct Flush {
+    /// The command, as it was asked.
+    pub job: Job,
+    /// The GOOD of what its unit was asked in its place.
+    pub reply: Reply,
+    /// The place of the entry in the unit's history.
+    pub place: u64,
+    /// The serial of the session's next command.
+    pub next: u64,
 }
 
 /// A session of a unit.
@@ -79,6 +94,7 @@ impl Stage {
             | Stage::InLane(_)
             | Stage::Ended(_, _)
             | Stage::Answered(_, _)
+            | Stage::Flushes(_)
             | Stage::Returned(_) => false,
         }
     }
@@ -93,6 +109,7 @@ impl Stage {
             | Stage::InLane(_)
             | Stage::Ended(_, _)
             | Stage::Answered(_, _)
+            | Stage::Flushes(_)
             | Stage::Returned(_) => None,
         }
     }
@@ -104,6 +121,20 @@ impl Stage {
     {
         match mem::replace(self, Stage::Idle) {
             Stage::Answered(job, end) => Some((job, end)),
+            other => {
+                *self = other;
+                None
+            }
+        }
+    }
+
+    // The command behind which a flush is on its way.
+    pub(crate) fn take_flush(&mut self) -> Option<Flush>
+        ensures flush { result ≡ flush_in self.old }
+        ensures none { IfNone result (self.new ≡ self.old) }
+    {
+        match mem::replace(self, Stage::Idle) {
+            Stage::Flushes(flush) => Some(flush),
             other => {
                 *self = other;
                 None

@@ -2,11 +2,13 @@
 ghost use Rattle.std.specs.Prelude.{◌≡◌, ◌<◌, ◌&&◌, [], ℕ, All, IfOk, MatchOption, OnOk, OnErr, if◌then◌else◌, length, slice_get, take};
 ghost use Rattle.unit_state.specs.Serials.{IsOpening};
 ghost use Rattle.world.specs.Records.{sent};
-ghost use Rattle.world.specs.Traffic.{IsTakenBack, closed, collected, given, is_idle, new_job, no_traffic, posted, returned_in, taken};
+ghost use Rattle.world.specs.Traffic.{IsAgain, IsHanded, IsTakenBack, closed, collected, flush_ended, given, is_idle, new_job};
+ghost use Rattle.world.specs.Traffic.{no_traffic, posted, taken};
 ghost use Rattle.world.specs.Worlds.{AllHappen, Happens, IsCountAt, IsCountOf, Stands, opening_of};
 ghost use Rattle.world.specs.declared.event.Event.TheVariants as events;
 
 use crate::event::Event;
+use crate::late::handed;
 use crate::note::Note;
 use crate::records::{Records, Way};
 use crate::session::{Session, Stage};
@@ -39,6 +41,26 @@ fn item_at<T>(items: &[T], place: usize) -> Option<&T>
     ensures { MatchOption result (slice_get items.now place ≡ None) (λ x. slice_get items.now place ≡ Some x.now) }
 {
     items.get(place)
+}
+
+// What a session hands in for a command that it was asked.
+fn new_job(
+    alloc: Global,
+    by_group: Group,
+    asked: Asked,
+    bytes: &Bytes,
+    is_late: bool,
+) -> Result<Job, NoMemory>
+    ensures { IfOk result (λ job. IsHanded is_late (new_job by_group asked bytes.now) job) }
+{
+    let job = Job {
+        by_group,
+        asked,
+        bytes: bytes.copy(alloc)?,
+        is_second: false,
+        late: None,
+    };
+    Ok(handed(job, is_late))
 }
 
 impl<B: Blocks, F: Blocks, O: Opener<B>> World<B, F, O> {
@@ -206,46 +228,44 @@ impl<B: Blocks, F: Blocks, O: Opener<B>> World<B, F, O> {
         Ok(())
     }
 
-    // A session whose command came to Moved sends it once more.
-    fn submit_again(&mut self, session: usize, way: Way) -> Result<(), NoMemory>
+    // The flush behind a session's command ends.
+    fn end_flush(&mut self, session: usize, is_done: bool) -> Result<(), NoMemory>
         ensures units { self.new.units ≡ self.old.units }
         ensures traffic { OnOk result ((count : ℕ) × IsCountOf self.old session count × (self.new.traffic
             ≡ given self.old.traffic (slice_get self.old.traffic.sessions session)
-            (λ x. given self.old.traffic (returned_in x.stage) (λ job. sent way count self.old.traffic session x job)))) }
+            (λ x. flush_ended count self.old.traffic session x is_done))) }
         ensures err { OnErr result (self.new ≡ self.old) }
     {
         self.records.make_room()?;
         let count = self.count_of(session);
-        self.records.submit_again(session, count, way);
+        self.records.end_flush(self.alloc, session, count, is_done);
+        Ok(())
+    }
+
+    // A session whose command came to Moved sends it once more.
+    fn submit_again(&mut self, session: usize, way: Way, is_late: bool) -> Result<(), NoMemory>
+        ensures units { self.new.units ≡ self.old.units }
+        ensures traffic { OnOk result ((count : ℕ) × IsCountOf self.old session count
+            × MatchOption (slice_get self.old.traffic.sessions session) (self.new.traffic ≡ self.old.traffic)
+            (λ x. IsAgain (sent way count) is_late self.old.traffic session x self.new.traffic)) }
+        ensures err { OnErr result (self.new ≡ self.old) }
+    {
+        self.records.make_room()?;
+        let count = self.count_of(session);
+        self.records.submit_again(session, count, way, is_late);
         Ok(())
     }
 
     // A session sends a command.
-    fn submit(
-        &mut self,
-        session: usize,
-        way: Way,
-        by_group: Group,
-        asked: Asked,
-        bytes: &Bytes,
-    ) -> Result<(), NoMemory>
+    fn submit(&mut self, session: usize, way: Way, job: Job) -> Result<(), NoMemory>
         ensures units { self.new.units ≡ self.old.units }
         ensures traffic { OnOk result ((count : ℕ) × IsCountOf self.old session count × (self.new.traffic
             ≡ given self.old.traffic (slice_get self.old.traffic.sessions session)
-            (λ x. if is_idle x.stage
-            then sent way count self.old.traffic session x (new_job by_group asked bytes.now)
-            else self.old.traffic))) }
+            (λ x. if is_idle x.stage then sent way count self.old.traffic session x job else self.old.traffic))) }
         ensures err { OnErr result (self.new ≡ self.old) }
     {
-        let bytes = bytes.copy(self.alloc)?;
         self.records.make_room()?;
         let count = self.count_of(session);
-        let job = Job {
-            by_group,
-            asked,
-            bytes,
-            is_second: false,
-        };
         self.records.submit(session, count, way, job);
         Ok(())
     }
@@ -283,29 +303,43 @@ impl<B: Blocks, F: Blocks, O: Opener<B>> World<B, F, O> {
                 by_group,
                 asked,
                 bytes,
-            } => return self.submit(*session, Way::Desk, *by_group, *asked, bytes),
-            Event::SubmitAgain { session } => return self.submit_again(*session, Way::Desk),
+                is_late,
+            } => {
+                let job = new_job(self.alloc, *by_group, *asked, bytes, *is_late)?;
+                return self.submit(*session, Way::Desk, job);
+            }
+            Event::SubmitAgain { session, is_late } => {
+                return self.submit_again(*session, Way::Desk, *is_late);
+            }
             Event::Begin {
                 session,
                 by_group,
                 asked,
                 bytes,
-            } => return self.submit(*session, Way::Hand, *by_group, *asked, bytes),
-            Event::BeginAgain { session } => return self.submit_again(*session, Way::Hand),
+                is_late,
+            } => {
+                let job = new_job(self.alloc, *by_group, *asked, bytes, *is_late)?;
+                return self.submit(*session, Way::Hand, job);
+            }
+            Event::BeginAgain { session, is_late } => {
+                return self.submit_again(*session, Way::Hand, *is_late);
+            }
             Event::TakeBack { session } => self.take_back(*session),
             Event::Close { group } => self.close(*group),
             Event::Take { group } => self.take(*group),
             Event::Serve { session } => self.serve(*session),
             Event::Post { session } => self.post(*session),
             Event::Collect { session } => return self.collect(*session),
+            Event::EndFlush { session, is_done } => return self.end_flush(*session, *is_done),
         }
         Ok(())
     }
 
     /// These events, one behind the other. Refused for want of memory, a beginning of them has happened. Whatever histories
     /// the units have had, they then have histories that these steps lead to, and over all that has happened since the units
-    /// opened each history is legal, each collected reply is that of its own command's entry, no serial of a session has two
-    /// entries, a command that ended without a reply has none, and what a session submits behind a reply comes later.
+    /// opened each history is legal, each reply is that of its own command's entry, or of a command whose flush came
+    /// behind it and which, as it was asked, could stand in the place of its entry; no serial of a session has two entries, a command
+    /// that ended without a reply has none, and what a session submits behind a reply comes later.
     pub fn run(&mut self, events: &[Event]) -> Result<(), NoMemory>
         ensures done { OnOk result (AllHappen (O.claims && B.claims) B.contents B.failures O.opens_failed F.failures
             events.now self.old self.new) }

@@ -1,8 +1,8 @@
 use Rattle.std.proofs.Common.{◌&&◌, length, refl}
 use Rattle.std.specs.Prelude.{slice_get}
-use Rattle.world.specs.Traffic.{begun, begun_again, collected, new_job, submitted, submitted_again}
+use Rattle.world.specs.Traffic.{begun, collected, flush_ended, handed_in, in_hand, submitted}
 use Rattle.world.specs.declared.event.Event.TheVariants as events
-use Rattle.world.proofs.Standing.{back_step, counted_goes, on_done, quiet_goes}
+use Rattle.world.proofs.Standing.{again_goes, back_step, counted_goes, on_done, quiet_goes}
 use Rattle.world.proofs.world.World.step.Goals as goal
 
 pub returns-in-Detach-clause-done : goal.returns-in-Detach-clause-done
@@ -43,20 +43,18 @@ returns-in-Submit-clause-done g c =
     (on_done c.submit.result c.submit.ensures.traffic
     (λ did. counted_goes (g.O.Opener.claims && g.B.Blocks.claims) g.B.Blocks.contents g.B.Blocks.failures g.O.Opener.opens_failed
     g.F.Blocks.failures
-    (events.Submit c.in-Submit.session c.in-Submit.by_group c.in-Submit.asked c.in-Submit.bytes) c.args.self.now
-    c.submit.new.self c.in-Submit.session did.0 (λ count x. submitted count t c.in-Submit.session x (new_job c.in-Submit.by_group c.in-Submit.asked c.in-Submit.bytes))
-    did.1 c.submit.ensures.units did.2 (λ opening past. refl)))
+    (events.Submit c.in-Submit.session c.in-Submit.by_group c.in-Submit.asked c.in-Submit.bytes c.in-Submit.is_late) c.args.self.now
+    c.submit.new.self c.in-Submit.session did.0 (λ count x. submitted count t c.in-Submit.session x c.in_ok-job-in-Submit.job)
+    did.1 c.submit.ensures.units did.2 (λ opening past. (c.in_ok-job-in-Submit.job, c.in_ok-job-in-Submit.ensures, refl))))
 
 pub returns-in-SubmitAgain-clause-done : goal.returns-in-SubmitAgain-clause-done
 returns-in-SubmitAgain-clause-done g c =
-    let t = c.args.self.now.traffic in
     rw c.in-SubmitAgain.is
     (on_done c.submit_again.result c.submit_again.ensures.traffic
-    (λ did. counted_goes (g.O.Opener.claims && g.B.Blocks.claims) g.B.Blocks.contents g.B.Blocks.failures g.O.Opener.opens_failed
+    (λ did. again_goes (g.O.Opener.claims && g.B.Blocks.claims) g.B.Blocks.contents g.B.Blocks.failures g.O.Opener.opens_failed
     g.F.Blocks.failures
-    (events.SubmitAgain c.in-SubmitAgain.session) c.args.self.now
-    c.submit_again.new.self c.in-SubmitAgain.session did.0 (λ count x. submitted_again count t c.in-SubmitAgain.session x)
-    did.1 c.submit_again.ensures.units did.2 (λ opening past. refl)))
+    (events.SubmitAgain c.in-SubmitAgain.session c.in-SubmitAgain.is_late) c.args.self.now c.submit_again.new.self c.in-SubmitAgain.session did.0 c.in-SubmitAgain.is_late
+    handed_in did.1 c.submit_again.ensures.units did.2 (λ opening past is. is)))
 
 pub returns-in-Collect-clause-done : goal.returns-in-Collect-clause-done
 returns-in-Collect-clause-done g c =
@@ -76,20 +74,30 @@ returns-in-Begin-clause-done g c =
     (on_done c.submit-in-Begin.result c.submit-in-Begin.ensures.traffic
     (λ did. counted_goes (g.O.Opener.claims && g.B.Blocks.claims) g.B.Blocks.contents g.B.Blocks.failures g.O.Opener.opens_failed
     g.F.Blocks.failures
-    (events.Begin c.in-Begin.session c.in-Begin.by_group c.in-Begin.asked c.in-Begin.bytes) c.args.self.now
-    c.submit-in-Begin.new.self c.in-Begin.session did.0 (λ count x. begun count t c.in-Begin.session x (new_job c.in-Begin.by_group c.in-Begin.asked c.in-Begin.bytes))
-    did.1 c.submit-in-Begin.ensures.units did.2 (λ opening past. refl)))
+    (events.Begin c.in-Begin.session c.in-Begin.by_group c.in-Begin.asked c.in-Begin.bytes c.in-Begin.is_late) c.args.self.now
+    c.submit-in-Begin.new.self c.in-Begin.session did.0 (λ count x. begun count t c.in-Begin.session x c.in_ok-job-in-Begin.job)
+    did.1 c.submit-in-Begin.ensures.units did.2 (λ opening past. (c.in_ok-job-in-Begin.job, c.in_ok-job-in-Begin.ensures, refl))))
 
 pub returns-in-BeginAgain-clause-done : goal.returns-in-BeginAgain-clause-done
 returns-in-BeginAgain-clause-done g c =
-    let t = c.args.self.now.traffic in
     rw c.in-BeginAgain.is
     (on_done c.submit_again-in-BeginAgain.result c.submit_again-in-BeginAgain.ensures.traffic
+    (λ did. again_goes (g.O.Opener.claims && g.B.Blocks.claims) g.B.Blocks.contents g.B.Blocks.failures g.O.Opener.opens_failed
+    g.F.Blocks.failures
+    (events.BeginAgain c.in-BeginAgain.session c.in-BeginAgain.is_late) c.args.self.now c.submit_again-in-BeginAgain.new.self c.in-BeginAgain.session did.0 c.in-BeginAgain.is_late
+    in_hand did.1 c.submit_again-in-BeginAgain.ensures.units did.2 (λ opening past is. is)))
+
+pub returns-in-EndFlush-clause-done : goal.returns-in-EndFlush-clause-done
+returns-in-EndFlush-clause-done g c =
+    let t = c.args.self.now.traffic in
+    rw c.in-EndFlush.is
+    (on_done c.end_flush.result c.end_flush.ensures.traffic
     (λ did. counted_goes (g.O.Opener.claims && g.B.Blocks.claims) g.B.Blocks.contents g.B.Blocks.failures g.O.Opener.opens_failed
     g.F.Blocks.failures
-    (events.BeginAgain c.in-BeginAgain.session) c.args.self.now
-    c.submit_again-in-BeginAgain.new.self c.in-BeginAgain.session did.0 (λ count x. begun_again count t c.in-BeginAgain.session x)
-    did.1 c.submit_again-in-BeginAgain.ensures.units did.2 (λ opening past. refl)))
+    (events.EndFlush c.in-EndFlush.session c.in-EndFlush.is_done) c.args.self.now
+    c.end_flush.new.self c.in-EndFlush.session did.0
+    (λ count x. flush_ended count t c.in-EndFlush.session x c.in-EndFlush.is_done)
+    did.1 c.end_flush.ensures.units did.2 (λ opening past. refl)))
 
 pub returns-in-Close-clause-done : goal.returns-in-Close-clause-done
 returns-in-Close-clause-done g c =

@@ -1,16 +1,17 @@
 -- A command whose flush came behind it could stand, as it was asked, in the place of its entry.
 use Rattle.std.proofs.Common.{◌≡◌, ℕ, ◌+◌, ◌-◌, ◌<◌, ◌≤◌, Bool, false, ◌&&◌, cond, List, [], ◌∷◌, ◌++◌}
-use Rattle.std.proofs.Common.{Option, Some, None, Ok, refl, sym, ap, ◌∙◌, subst, ⊎_elim, inl, inr, arith}
+use Rattle.std.proofs.Common.{Option, Some, None, Result, Ok, refl, sym, ap, ◌∙◌, subst, ⊎_elim, inl, inr, arith}
 use Rattle.std.proofs.lemmas.Bool.{false≢true, and_from, and_left, and_right, cases_lt, lt-ltb, le-ltb, le-leb, lt-leb}
 use Rattle.std.specs.Prelude.{IsTrue, nat_lt, nat_le}
 use Rattle.std.specs.Option.{option_or}
 use Rattle.access_states.specs.declared.state.AccessState.{AccessState}
 use Rattle.access_states.specs.declared.state.AccessState.TheVariants.{ActiveOptimized, ActiveNonOptimized, Standby, Unavailable}
 use Rattle.block_file.specs.DiskLaws.{written_none}
-use Rattle.unit_lock.specs.Calls.{PlacedPass}
 use Rattle.scsi_types.specs.ReplyValue.{ReplyValue, check}
 use Rattle.scsi_types.specs.Sense.{lba_out_of_range, write_error}
 use Rattle.scsi_types.specs.declared.names.Group.{Group}
+use Rattle.scsi_types.specs.declared.command.Command.{Command as ScsiCommand}
+use Rattle.scsi_types.specs.declared.command.CdbFault.{CdbFault}
 use Rattle.scsi_types.specs.declared.command.Op.TheVariants as ops
 use Rattle.scsi_types.specs.declared.status.Status.TheVariants.{Good}
 use Rattle.unit_control.specs.declared.refusal.Refusal.{Refusal}
@@ -24,9 +25,7 @@ use Rattle.unit_control.specs.Medium.{Finding, MayFind, WriteError, left, work_o
 use Rattle.unit_control.specs.Refusal.{Request, request, refusal, refusal_reply, access_by, attention_rule, conflict_rule, field_rule, list_rule, opcode_rule}
 use Rattle.unit_control.specs.Refusal.{outside, saved_rule, state_for}
 use Rattle.unit_entries.specs.Histories.{IsHistory, IsToldBehind}
-use Rattle.portal.specs.Units.{Claims}
-use Rattle.portal.specs.Late.{Late, Flushing, writes, compares, synchronizes, asked_by, served_by, IsTold}
-use Rattle.portal.specs.Entries.{IsLate}
+use Rattle.late_flushes.specs.Flushes.{Flushing, writes, compares, synchronizes, asked_by, served_by, HasLateFlush, IsTold, IsUnflushed}
 
 -- ---- commands without their flush
 
@@ -362,59 +361,92 @@ module _ (claims : Bool) (now : UnitState) (session serial : ℕ) (by : Group) (
 
 -- ---- the entry of a command whose flush came behind it
 
-module _ (claims : Claims) (late : Late) (s : UnitState) (h : List Entry) (session serial : ℕ) (by : Group) (bytes : List ℕ)
-    (choice : Choice) (f : Flushing) (is_late : IsTrue late.is_late) (p : PlacedPass Entry)
-    (seen : p.pass.seen ≡ h ++ Command session serial by (Ok (served_by f)) bytes choice ∷ [])
-    (legal : IsLegal claims.contents s (h ++ Command session serial by (Ok (served_by f)) bytes choice ∷ [])) where
+module _ (claims : Bool) (lasts : Type 0) (s : UnitState) (h : List Entry) (session serial : ℕ) (by : Group) (bytes : List ℕ)
+    (choice : Choice) (f : Flushing)
+    (possible : IsPossible claims (state_after s h) (Command session serial by (Ok (served_by f)) bytes choice)) where
   abbrev pub now : UnitState
   now = state_after s h
 
   abbrev pub it : Entry
   it = Command session serial by (Ok (served_by f)) bytes choice
 
-  possible : IsPossible claims.contents now it
-  possible = possible_at_end claims.contents s h it legal
+  abbrev pub Shows : ReplyValue → Type 0
+  Shows told = HasLateFlush claims lasts s h session serial by (Ok (served_by f)) bytes choice (Ok (asked_by f)) told
 
-  abbrev pub Late_of : ReplyValue → Type 0
-  Late_of told = IsLate claims late s h session serial by (Ok (served_by f)) bytes choice (Ok (asked_by f)) told
-
-  replied_so : (reply : ReplyValue) → (reply.status ≡ Good → late.lasts p) → IsReplyTo claims.contents now it reply → Late_of reply
-  replied_so reply lasts is =
+  replied_so : (reply : ReplyValue) → (reply.status ≡ Good → lasts) → IsReplyTo claims now it reply → Shows reply
+  replied_so reply behind is =
       record {
-        is_late = is_late;
         unflushed = (f, refl, refl);
         end = choice;
-        possible = possible_so claims.contents now session serial by bytes choice f possible;
-        same = same_so claims.contents now session serial by bytes choice f;
-        told = told_at_end false s h (as_asked claims.contents now session serial by bytes choice f choice) reply
-            (told_so claims.contents now session serial by bytes choice f reply is);
+        possible = possible_so claims now session serial by bytes choice f possible;
+        same = same_so claims now session serial by bytes choice f;
+        answered = told_at_end false s h (as_asked claims now session serial by bytes choice f choice) reply
+            (told_so claims now session serial by bytes choice f reply is);
         first = reply;
-        replied_first = told_at_end claims.contents s h it reply is;
-        told_is = inl (refl, λ (good : reply.status ≡ Good). (p, seen, lasts good));
+        replied_first = told_at_end claims s h it reply is;
+        told_is = inl (refl, behind);
       }
 
-  lost_so : (reply : ReplyValue) → reply.status ≡ Good → IsReplyTo claims.contents now it reply → Late_of (check write_error)
+  lost_so : (reply : ReplyValue) → reply.status ≡ Good → IsReplyTo claims now it reply → Shows (check write_error)
   lost_so reply good is =
-      let none = unrefused claims.contents now session serial by bytes choice f reply good is in
+      let none = unrefused claims now session serial by bytes choice f reply good is in
       record {
-        is_late = is_late;
         unflushed = (f, refl, refl);
-        end = lost claims.contents now session serial by bytes choice f;
-        possible = possible_lost claims.contents now session serial by bytes choice f none possible;
-        same = same_lost claims.contents now session serial by bytes choice f none;
-        told = told_at_end false s h
-            (as_asked claims.contents now session serial by bytes choice f (lost claims.contents now session serial by bytes choice f))
-            (check write_error) (told_lost claims.contents now session serial by bytes choice f none);
+        end = lost claims now session serial by bytes choice f;
+        possible = possible_lost claims now session serial by bytes choice f none possible;
+        same = same_lost claims now session serial by bytes choice f none;
+        answered = told_at_end false s h (as_asked claims now session serial by bytes choice f (lost claims now session serial by bytes choice f))
+            (check write_error) (told_lost claims now session serial by bytes choice f none);
         first = reply;
-        replied_first = told_at_end claims.contents s h it reply is;
+        replied_first = told_at_end claims s h it reply is;
         told_is = inr (good, refl);
       }
 
-  pub late_entry : (reply told : ReplyValue) → IsToldBehind claims.contents s h it reply → IsTold (late.lasts p) reply told → Late_of told
-  late_entry reply told is ended =
-      let here = reply_at_end claims.contents s h it reply is in
+  pub has_late_flush : (reply told : ReplyValue) → IsToldBehind claims s h it reply → IsTold lasts reply told → Shows told
+  has_late_flush reply told is ended =
+      let here = reply_at_end claims s h it reply is in
       ⊎_elim
-      (λ (so : (told ≡ reply) × (reply.status ≡ Good → late.lasts p)).
-      subst (λ (r : ReplyValue). Late_of r) (sym so.0) (replied_so reply so.1 here))
-      (λ (lost : (reply.status ≡ Good) × (told ≡ check write_error)).
-      subst (λ (r : ReplyValue). Late_of r) (sym lost.1) (lost_so reply lost.0 here)) ended
+      (λ (so : (told ≡ reply) × (reply.status ≡ Good → lasts)).
+      subst (λ (r : ReplyValue). Shows r) (sym so.0) (replied_so reply so.1 here))
+      (λ (failed : (reply.status ≡ Good) × (told ≡ check write_error)).
+      subst (λ (r : ReplyValue). Shows r) (sym failed.1) (lost_so reply failed.0 here)) ended
+
+-- of a command and what its unit was asked in its place
+pub late_flush_of : (claims : Bool) (lasts : Type 0) (s : UnitState) (h : List Entry) (session serial : ℕ) (by : Group) (bytes : List ℕ)
+    (choice : Choice) (asked served : Result ScsiCommand CdbFault) → IsUnflushed asked served
+    → IsPossible claims (state_after s h) (Command session serial by served bytes choice) → (reply told : ReplyValue)
+    → IsToldBehind claims s h (Command session serial by served bytes choice) reply → IsTold lasts reply told
+    → HasLateFlush claims lasts s h session serial by served bytes choice asked told
+late_flush_of claims lasts s h session serial by bytes choice asked served off possible reply told is ended =
+    subst (λ (a : Result ScsiCommand CdbFault). HasLateFlush claims lasts s h session serial by served bytes choice a told) (sym off.1)
+    (subst
+    (λ (v : Result ScsiCommand CdbFault). HasLateFlush claims lasts s h session serial by v bytes choice (Ok (asked_by off.0)) told)
+    (sym off.2)
+    (has_late_flush claims lasts s h session serial by bytes choice off.0
+    (subst (λ (v : Result ScsiCommand CdbFault). IsPossible claims (state_after s h) (Command session serial by v bytes choice)) off.2
+    possible)
+    reply told
+    (subst (λ (v : Result ScsiCommand CdbFault). IsToldBehind claims s h (Command session serial by v bytes choice) reply) off.2 is)
+    ended))
+
+-- ---- what is known of the flush
+
+pub told_by : (one two : Type 0) (reply told : ReplyValue) → (one → two) → IsTold one reply told → IsTold two reply told
+told_by one two reply told more is =
+    ⊎_elim (λ (so : (told ≡ reply) × (reply.status ≡ Good → one)). inl (so.0, λ (good : reply.status ≡ Good). more (so.1 good)))
+    (λ (failed : (reply.status ≡ Good) × (told ≡ check write_error)). inr failed) is
+
+pub late_by : (claims : Bool) (one two : Type 0) (s : UnitState) (h : List Entry) (session serial : ℕ) (by : Group)
+    (served : Result ScsiCommand CdbFault) (bytes : List ℕ) (choice : Choice) (asked : Result ScsiCommand CdbFault) (told : ReplyValue)
+    → (one → two) → HasLateFlush claims one s h session serial by served bytes choice asked told
+    → HasLateFlush claims two s h session serial by served bytes choice asked told
+late_by claims one two s h session serial by served bytes choice asked told more is = record {
+  unflushed = is.unflushed;
+  end = is.end;
+  possible = is.possible;
+  same = is.same;
+  answered = is.answered;
+  first = is.first;
+  replied_first = is.replied_first;
+  told_is = told_by one two is.first told more is.told_is;
+}
