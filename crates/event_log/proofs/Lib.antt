@@ -1,1 +1,1 @@
-mod Plain
+pub mod PlainLaws

@@ -6,7 +6,7 @@ use crate::event::Event;
 
 /// The line of an event has printing characters of ASCII alone, whatever an initiator or a path is called: none of them begins a line
 /// of its own, or reaches a terminal.
-#[tactic(auto, using(crate::proofs::Plain::line))]
+#[tactic(auto, using(crate::proofs::PlainLaws::line))]
 pub fn no_event_begins_a_line(event: &Event<'_>)
     ensures { are_plain (text_of event.now) ≡ true }
 {}

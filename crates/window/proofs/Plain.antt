@@ -3,7 +3,7 @@ use Rattle.std.proofs.Common.{◌≡◌, ℕ, ◌/◌, ◌%◌, List, [], ◌∷
 use Rattle.std.specs.Prelude.{nat_eq, if◌then◌else◌, codes}
 use Rattle.std.specs.Fmt.{decimal}
 use Rattle.event_log.specs.Text.{is_plain, are_plain, hex_digit, hex}
-use Rattle.event_log.proofs.Plain.{choose, hexed, join, kept, number, two_digits}
+use Rattle.event_log.proofs.PlainLaws.{choose, hexed, join, kept, number, two_digits}
 use Rattle.window.specs.Text.{spelled, word, label_onto, labels_onto, amount_onto, heading_onto, sample_onto}
 use Rattle.window.specs.declared.line.Label.{Label}
 use Rattle.window.specs.declared.line.Label.TheVariants as labels
