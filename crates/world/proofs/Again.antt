@@ -15,7 +15,8 @@ use Rattle.scsi_types.specs.ReplyValue.{ReplyValue}
 use Rattle.scsi_types.specs.declared.command.Command.{Command as ScsiCommand}
 use Rattle.scsi_types.specs.declared.command.CdbFault.{CdbFault}
 use Rattle.world.specs.Traffic.{Traffic, as_asked, at_stage, given, given_up, heard, is_closed, is_good, note_of, noted, waiting}
-use Rattle.world.specs.Traffic.{IsAgain, IsHanded, IsTakenBack, in_lane, replied, returned_in, settled, taken_back, told_behind, flush_in, waits_in, with_waiting}
+use Rattle.world.specs.Traffic.{IsAgain, IsHanded, IsTakenBack, flush_in, in_lane, replied, returned_in, settled, taken_back}
+use Rattle.world.specs.Traffic.{told_behind, waits_in, with_waiting}
 use Rattle.world.specs.declared.session.Flush.{Flush}
 use Rattle.world.specs.declared.note.What.{What}
 use Rattle.world.specs.declared.note.What.TheVariants.{Submitted, FlushBegan, Replied as HasReply, Settled, Busy, Gone}

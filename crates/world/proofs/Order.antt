@@ -25,10 +25,11 @@ use Rattle.unit_events.specs.declared.job.End.TheVariants.{Replied, Refused as I
 use Rattle.world.specs.declared.session.Session.{Session}
 use Rattle.world.specs.declared.session.Stage.{Stage}
 use Rattle.world.specs.declared.session.Stage.TheVariants.{Idle, Waits, InLane, Ended, Answered, Flushes, Returned}
-use Rattle.world.proofs.Sound.{Sound, no_entry, quiet_entry, StageOk, IsUnserved, JobOk, WhatOk}
+use Rattle.world.proofs.Sound.{Sound, no_entry, quiet_entry, StageOk, IsUnserved, WhatOk}
 use Rattle.world.proofs.Steps.{sound_attached, sound_begun, sound_begun_again, sound_closed, sound_elsewhere, sound_submitted}
-use Rattle.world.proofs.Steps.{handed_ok, sound_flush_ended, sound_submitted_again, sound_in_lane, sound_taken_back}
-use Rattle.world.proofs.Steps.{sound_posted, sound_collected, sound_ended, sound_served, sound_waiting}
+use Rattle.world.proofs.Told.{sound_collected, sound_flush_ended}
+use Rattle.world.proofs.Steps.{handed_ok, sound_submitted_again, sound_in_lane, sound_taken_back}
+use Rattle.world.proofs.Steps.{sound_posted, sound_ended, sound_served, sound_waiting}
 
 module _ (claims : Bool) (units : ℕ) (opening : ℕ → UnitState) where
   abbrev SoundAt : ℕ → List Entry → Traffic → Type 0

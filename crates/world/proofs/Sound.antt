@@ -1,6 +1,6 @@
 -- What carries the order of a world through its steps, of the unit at one place.
 use Rattle.std.proofs.Common.{◌≡◌, ◌≢◌, ◌⊎◌, inl, inr, ⊎_elim, ℕ, zero, suc, ◌+◌, ◌<◌, ◌≤◌, Bool, true, false, nat_eq}
-use Rattle.std.proofs.Common.{List, [], ◌∷◌, ◌++◌, length, Option, Some, Result, refl, sym, ap, subst, ◌∙◌, arith, append_assoc}
+use Rattle.std.proofs.Common.{List, [], ◌∷◌, ◌++◌, length, Some, Result, refl, sym, ap, subst, ◌∙◌, arith, append_assoc}
 use Rattle.std.specs.Prelude.{MatchOption, slice_get, slice_set}
 use Rattle.std.proofs.lemmas.Bool.Decides.{eqb_tells}
 use Rattle.std.proofs.lemmas.List.Sums.{sum_by_push}
@@ -12,12 +12,11 @@ use Rattle.scsi_types.specs.declared.command.Command.{Command as ScsiCommand}
 use Rattle.scsi_types.specs.declared.command.CdbFault.{CdbFault}
 use Rattle.scsi_types.specs.declared.status.Status.TheVariants.{Good}
 use Rattle.unit_control.specs.State.{UnitState}
-use Rattle.unit_control.specs.Choice.{Choice}
-use Rattle.unit_control.specs.Entry.{Entry, Attach, Detach, Reset, Move, Command, IsPossible, after}
-use Rattle.unit_state.specs.History.{state_after, IsLegal, IsReplyAt}
-use Rattle.unit_entries.specs.Histories.{IsCommand, IsToldBehind, command}
-use Rattle.late_flushes.specs.Flushes.{IsTold, IsUnflushed}
-use Rattle.late_flushes.proofs.FlushLaws.{late_by, late_flush_of}
+use Rattle.unit_control.specs.Entry.{Entry, Attach, Detach, Reset, Move, Command, after}
+use Rattle.unit_state.specs.History.{IsReplyAt}
+use Rattle.unit_entries.specs.Histories.{IsCommand, command}
+use Rattle.late_flushes.specs.Flushes.{IsUnflushed}
+use Rattle.late_flushes.proofs.FlushLaws.{late_by}
 use Rattle.world.specs.Orders.{IsEntryOf, IsFlushedBehind, IsNone, IsNoted, IsSettledAt, IsSubmittedBehind}
 use Rattle.world.specs.declared.note.Note.{Note}
 use Rattle.world.specs.declared.note.What.{What}
@@ -29,7 +28,7 @@ use Rattle.world.specs.declared.session.Flush.{Flush}
 use Rattle.world.specs.declared.session.Session.{Session}
 use Rattle.world.specs.declared.session.Stage.{Stage}
 use Rattle.world.specs.declared.session.Stage.TheVariants.{Idle, Waits, InLane, Ended, Answered, Flushes, Returned}
-use Rattle.world.proofs.Lists.{get_kept, get_pushed, get_set, longer, some_same}
+use Rattle.world.proofs.Lists.{get_kept, get_pushed, get_set, longer}
 
 -- ---- entries
 
@@ -197,7 +196,8 @@ pub record FlushOk (claims : Bool) (s : UnitState) (h : List Entry) (notes : Lis
 module _ (claims : Bool) (s : UnitState) where
   abbrev pub EndOk : List Entry → Session → Job → End → Type 0
   EndOk h x job (Replied reply at next) =
-      (commands x.id h ≡ x.next) × (next ≡ x.next + 1) × HasEntry claims s h x.id x.next job.by_group job.asked job.bytes reply at × JobOk job
+      (commands x.id h ≡ x.next) × (next ≡ x.next + 1)
+      × HasEntry claims s h x.id x.next job.by_group job.asked job.bytes reply at × JobOk job
   EndOk h x job (IsRefused why) = IsUnserved h x
 
   abbrev pub StageOk : List Entry → List Note → Session → Stage → Type 0
@@ -559,57 +559,3 @@ module _ (claims : Bool) (s : UnitState) where
       (λ i a is none unit of. absurd (no a.session a.serial of))
       (λ n x is at. let l = longer h e in let b = sound.id n x is at in omega arith)
       (λ n x is at. stage_kept h e notes x x.stage (quiet x.id) (sound.stage n x is at)) sound.apart
-
--- ---- a command whose flush came behind it
-
--- an entry with what stands before and behind it
-record Placed (claims : Bool) (s : UnitState) (h : List Entry) (at : ℕ) (e : Entry) (reply : ReplyValue) : Type 0 where
-  before : List Entry
-  behind : List Entry
-  is : h ≡ (before ++ e ∷ []) ++ behind
-  place : at ≡ length before
-  possible : IsPossible claims (state_after s before) e
-  told : IsToldBehind claims s before e reply
-
-placed : (claims : Bool) (s : UnitState) (h : List Entry) (at : ℕ) (e : Entry) (reply : ReplyValue) → slice_get h at ≡ Some e
-    → IsReplyAt claims s h at reply → IsLegal claims s h → Placed claims s h at e reply
-placed claims s [] at e reply there replies legal = absurd replies
-placed claims s (x ∷ h) zero e reply there replies legal =
-    let same : x ≡ e = some_same x e there in
-    record {
-      before = [];
-      behind = h;
-      is = ap (λ (y : Entry). y ∷ h) same;
-      place = refl;
-      possible = subst (λ (y : Entry). IsPossible claims s y) same legal.0;
-      told = subst (λ (y : Entry). IsToldBehind claims s [] y reply) same replies;
-    }
-placed claims s (x ∷ h) (suc at) e reply there replies legal =
-    let o = placed claims (after s x) h at e reply there replies legal.1 in
-    record {
-      before = x ∷ o.before;
-      behind = o.behind;
-      is = ap (λ (ys : List Entry). x ∷ ys) o.is;
-      place = ap (λ (k : ℕ). suc k) o.place;
-      possible = o.possible;
-      told = o.told;
-    }
-
-pub settled_at : (claims : Bool) (lasts : Type 0) (s : UnitState) (h : List Entry) (id serial : ℕ) (job : Job)
-    (served : Result ScsiCommand CdbFault) (reply told : ReplyValue) (at : ℕ) → IsLegal claims s h → IsUnflushed job.asked served
-    → HasEntry claims s h id serial job.by_group served job.bytes reply at → IsTold lasts reply told
-    → IsSettledAt claims lasts s h id serial job told at
-settled_at claims lasts s h id serial job served reply told at legal off o ended =
-    let it : Entry = Command id serial job.by_group served job.bytes o.is.0 in
-    let here : slice_get h at ≡ Some it = o.there ∙ ap (λ (e : Entry). let r : Option Entry = Some e in r) o.is.1 in
-    let p = placed claims s h at it reply here o.replies legal in
-    record {
-      before = p.before;
-      behind = p.behind;
-      served = served;
-      choice = o.is.0;
-      is = p.is;
-      place = p.place;
-      stands = late_flush_of claims lasts s p.before id serial job.by_group job.bytes o.is.0 job.asked served off p.possible reply told
-          p.told ended;
-    }

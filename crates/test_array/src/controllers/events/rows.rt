@@ -8,6 +8,14 @@ pub enum Asks {
     Test,
     /// SET TARGET PORT GROUPS: this group is active/optimized.
     Set(Group),
+    /// WRITE (10) of block 0, with this byte in each of its places.
+    Write(u8),
+    /// The same with FUA.
+    WriteFua(u8),
+    /// SYNCHRONIZE CACHE (10) of the whole unit.
+    Synchronize,
+    /// WRITE (10) with FUA of the block behind the last one.
+    WriteBeyond,
 }
 
 /// An event. Sessions go by the order in which they attached, units by their places.
@@ -21,12 +29,17 @@ pub enum Act {
     Move(usize, Group),
     /// A session hands in a command at the desk of a group.
     Submit(usize, Group, Asks),
+    /// So where the flush of a command is left to come behind it.
+    SubmitLate(usize, Group, Asks),
     /// It hands in once more what came to Moved.
     Again(usize),
+    AgainLate(usize),
     /// Its worker serves a command at once.
     Begin(usize, Group, Asks),
+    BeginLate(usize, Group, Asks),
     /// It serves so what came to Moved.
     BeginAgain(usize),
+    BeginAgainLate(usize),
     /// Its worker takes its job back.
     TakeBack(usize),
     /// A desk closes.
@@ -35,16 +48,25 @@ pub enum Act {
     Serve(usize),
     Post(usize),
     Collect(usize),
+    /// The flush behind its command is done, or has failed.
+    Done(usize),
+    Failed(usize),
 }
 
 /// What a session did or heard.
 #[derive(Clone, Copy, PartialEq, Eq)]
 pub enum Said {
     Submitted,
+    FlushBegan,
     /// GOOD without data, at the desk of this group, as the entry at this place.
     Good(Group, u64),
     /// CHECK CONDITION with this sense key, additional sense code and qualifier, in the same way.
     Check(Group, u64, (u8, u8, u8)),
+    /// GOOD without data of a command whose flush was left to come behind it, in place of the reply of the entry at this place: a
+    /// flush was done behind it.
+    GoodBehind(Group, u64),
+    /// CHECK CONDITION of such a command, in the same way: no flush was done behind it.
+    CheckBehind(Group, u64, (u8, u8, u8)),
     /// Any other reply.
     Other,
     Busy,
@@ -63,6 +85,7 @@ pub enum At {
     InLane,
     Ended,
     Answered,
+    Flushes,
     Returned,
 }
 

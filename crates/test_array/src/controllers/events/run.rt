@@ -28,10 +28,21 @@ fn told(job: &Job, reply: &Reply, at: u64) -> Said {
     }
 }
 
+// The same of a command whose flush was left to come behind it.
+fn told_behind(job: &Job, reply: &Reply, at: u64, is_flushed: bool) -> Said {
+    match (told(job, reply, at), is_flushed) {
+        (Said::Good(by_group, at), true) => Said::GoodBehind(by_group, at),
+        (Said::Check(by_group, at, sense), false) => Said::CheckBehind(by_group, at, sense),
+        _ => Said::Other,
+    }
+}
+
 fn said(what: &What) -> Said {
     match what {
         What::Submitted => Said::Submitted,
+        What::FlushBegan => Said::FlushBegan,
         What::Replied(job, reply, at) => told(job, reply, *at),
+        What::Settled(job, reply, at, is_flushed) => told_behind(job, reply, *at, *is_flushed),
         What::Busy => Said::Busy,
         What::Gone => Said::Gone,
     }
@@ -44,6 +55,7 @@ fn at(stage: &Stage) -> At {
         Stage::InLane(_) => At::InLane,
         Stage::Ended(_, _) => At::Ended,
         Stage::Answered(_, _) => At::Answered,
+        Stage::Flushes(_) => At::Flushes,
         Stage::Returned(_) => At::Returned,
     }
 }

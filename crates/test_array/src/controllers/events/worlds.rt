@@ -26,7 +26,18 @@ const TEST: [u8; 16] = [0; 16];
 // SET TARGET PORT GROUPS with a list of 8 bytes (SPC-4, 6.45)
 const SET: [u8; 16] = [0xA4, 0x0A, 0, 0, 0, 0, 0, 0, 0, 8, 0, 0, 0, 0, 0, 0];
 
-// its list: a group is active/optimized
+// WRITE (10) of block 0, and the same with FUA (SBC-4, 5.44)
+const WRITE: [u8; 16] = [0x2A, 0, 0, 0, 0, 0, 0, 0, 1, 0, 0, 0, 0, 0, 0, 0];
+
+const WRITE_FUA: [u8; 16] = [0x2A, 0x08, 0, 0, 0, 0, 0, 0, 1, 0, 0, 0, 0, 0, 0, 0];
+
+// WRITE (10) with FUA of block 16
+const WRITE_BEYOND: [u8; 16] = [0x2A, 0x08, 0, 0, 0, 16, 0, 0, 1, 0, 0, 0, 0, 0, 0, 0];
+
+// SYNCHRONIZE CACHE (10) to the end of the unit (SBC-4, 5.33)
+const SYNCHRONIZE: [u8; 16] = [0x35, 0, 0, 0, 0, 0, 0, 0, 0, 0, 0, 0, 0, 0, 0, 0];
+
+// the list of SET: a group is active/optimized
 const FIRST: [u8; 8] = [0, 0, 0, 0, 0, 0, 0, 1];
 
 const SECOND: [u8; 8] = [0, 0, 0, 0, 0, 0, 0, 2];
@@ -62,32 +73,59 @@ fn list_of(group: Group) -> &'static [u8] {
     }
 }
 
-// What a command asks, and its data.
-fn asked(alloc: Global, asks: Asks) -> Result<(Asked, Bytes), Fail> {
-    let (cdb, list): (&[u8; 16], &[u8]) = match asks {
-        Asks::Test => (&TEST, &[]),
-        Asks::Set(group) => (&SET, list_of(group)),
-    };
-    Ok((decode(cdb), Bytes::new(Vec::from_slice(alloc, list)?)))
+// A block with this byte in each of its places.
+fn block_of(alloc: Global, byte: u8) -> Result<Vec<u8>, Fail> {
+    Ok(vec![in alloc; byte; 512]?)
 }
 
-fn submit(alloc: Global, session: usize, by_group: Group, asks: Asks) -> Result<Event, Fail> {
+fn bytes_of(alloc: Global, list: &[u8]) -> Result<Vec<u8>, Fail> {
+    Ok(Vec::from_slice(alloc, list)?)
+}
+
+// What a command asks, and its data.
+fn asked(alloc: Global, asks: Asks) -> Result<(Asked, Bytes), Fail> {
+    let (cdb, data) = match asks {
+        Asks::Test => (&TEST, bytes_of(alloc, &[])?),
+        Asks::Set(group) => (&SET, bytes_of(alloc, list_of(group))?),
+        Asks::Write(byte) => (&WRITE, block_of(alloc, byte)?),
+        Asks::WriteFua(byte) => (&WRITE_FUA, block_of(alloc, byte)?),
+        Asks::WriteBeyond => (&WRITE_BEYOND, block_of(alloc, 0)?),
+        Asks::Synchronize => (&SYNCHRONIZE, bytes_of(alloc, &[])?),
+    };
+    Ok((decode(cdb), Bytes::new(data)))
+}
+
+fn submit(
+    alloc: Global,
+    session: usize,
+    by_group: Group,
+    asks: Asks,
+    is_late: bool,
+) -> Result<Event, Fail> {
     let (asked, bytes) = asked(alloc, asks)?;
     Ok(Event::Submit {
         session,
         by_group,
         asked,
         bytes,
+        is_late,
     })
 }
 
-fn begin(alloc: Global, session: usize, by_group: Group, asks: Asks) -> Result<Event, Fail> {
+fn begin(
+    alloc: Global,
+    session: usize,
+    by_group: Group,
+    asks: Asks,
+    is_late: bool,
+) -> Result<Event, Fail> {
     let (asked, bytes) = asked(alloc, asks)?;
     Ok(Event::Begin {
         session,
         by_group,
         asked,
         bytes,
+        is_late,
     })
 }
 
@@ -104,16 +142,40 @@ fn event_of(alloc: Global, act: Act) -> Result<Event, Fail> {
             let list = Bytes::new(Vec::from_slice(alloc, list_of(group))?);
             Ok(Event::Move { place, list })
         }
-        Act::Submit(session, by_group, asks) => submit(alloc, session, by_group, asks),
-        Act::Again(session) => Ok(Event::SubmitAgain { session }),
-        Act::Begin(session, by_group, asks) => begin(alloc, session, by_group, asks),
-        Act::BeginAgain(session) => Ok(Event::BeginAgain { session }),
+        Act::Submit(session, by_group, asks) => submit(alloc, session, by_group, asks, false),
+        Act::SubmitLate(session, by_group, asks) => submit(alloc, session, by_group, asks, true),
+        Act::Again(session) => Ok(Event::SubmitAgain {
+            session,
+            is_late: false,
+        }),
+        Act::AgainLate(session) => Ok(Event::SubmitAgain {
+            session,
+            is_late: true,
+        }),
+        Act::Begin(session, by_group, asks) => begin(alloc, session, by_group, asks, false),
+        Act::BeginLate(session, by_group, asks) => begin(alloc, session, by_group, asks, true),
+        Act::BeginAgain(session) => Ok(Event::BeginAgain {
+            session,
+            is_late: false,
+        }),
+        Act::BeginAgainLate(session) => Ok(Event::BeginAgain {
+            session,
+            is_late: true,
+        }),
         Act::TakeBack(session) => Ok(Event::TakeBack { session }),
         Act::Close(group) => Ok(Event::Close { group }),
         Act::Take(group) => Ok(Event::Take { group }),
         Act::Serve(session) => Ok(Event::Serve { session }),
         Act::Post(session) => Ok(Event::Post { session }),
         Act::Collect(session) => Ok(Event::Collect { session }),
+        Act::Done(session) => Ok(Event::EndFlush {
+            session,
+            is_done: true,
+        }),
+        Act::Failed(session) => Ok(Event::EndFlush {
+            session,
+            is_done: false,
+        }),
     }
 }
 
