@@ -1,5 +1,5 @@
 //! What is said of sessions, in a storage engineer's words.
-ghost use Rattle.std.specs.Prelude.{◌≡◌, ◌⊎◌, All, AllPairs, List, ℕ, true, length};
+ghost use Rattle.std.specs.Prelude.{◌≡◌, ◌⊎◌, All, AllPairs, List, ℕ, false, true, length};
 ghost use mathlib.Core.List.{IsPrefix};
 ghost use Rattle.unit_control.specs.State.{UnitState};
 ghost use Rattle.unit_control.specs.Entry.{Entry};
