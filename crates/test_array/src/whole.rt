@@ -1,4 +1,5 @@
-//! An array over two files that loses power and is started again.
+//! The program over two files: which unit is in which file, and which portal in which group. The files are copied while it serves, and a
+//! second array starts over the copies. So nothing is lost that a write had reached: this is no loss of a disk's cache.
 use crate::ends::must;
 use crate::host::Host;
 use crate::hosts::perform;

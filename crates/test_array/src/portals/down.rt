@@ -13,7 +13,7 @@ console status / down 1 / status / down 2 / status / x / quit =
 "#
 }
 
-// Unit 1 stays, whose blocks do not open, and unit 0 has gone before.
+// `down 1` opens nothing of unit 1, which controller 2 owns from the start. At `down 2` unit 0 has moved when unit 1 does not open.
 pub fn unopened() -> &'static str {
     r#"
 a unit whose blocks do not open stays

@@ -1,5 +1,5 @@
 //! Discovery sessions from their login on (RFC 7143, 4.3, 11.10 and appendix C).
-// Each login but the last begins a session of discovery.
+// Each row but the last two logs in to a session of discovery.
 pub fn served() -> &'static str {
     r#"
 SendTargets=All, NOP-Out, and Logout
@@ -75,6 +75,7 @@ asked begin iqn.2000-01.test:a 400001370000 Normal
 "#
 }
 
+// Each is rejected with its header segment, and ends the session.
 pub fn rejected() -> &'static str {
     r#"
 576 bytes of an answer, where the initiator takes 512

@@ -1,4 +1,4 @@
-//! What a session is told once: a power on, a reset (SAM-5, 5.14; SPC-4, 6.39).
+//! What a session is told once: a power on, a reset, reservations that others change, access states (SAM-5, 5.14; SPC-4, 6.39).
 use crate::units::run::run;
 
 const ROWS: &str = r#"

@@ -36,8 +36,8 @@ A Register 0 0 11; Good;; 6; 11 22; 0 0
 A Reserve 7 11 0; Good;; 6; 11 22; 0 7
 B Release 7 22 0; Good; A:ReservationsReleased; 6; 11 22; 0 0
 
-# ALL_TG_PT: one registration for every port.
-the holder writes through either port, until both are preempted
+# ALL_TG_PT: REGISTER makes a registration for each port. Other actions ignore the bit.
+who is registered at both ports writes through either, until both are preempted
 A Register 0 0 11 ALL_TG_PT; Good;; 1; 11 11; 0 0
 A Reserve 5 11 0 ALL_TG_PT; Good;; 1; 11 11; 11 5
 A_TWO Release 5 11 0 ALL_TG_PT; Good;; 1; 11 11; 11 5
@@ -48,7 +48,7 @@ B Preempt 5 22 11 ALL_TG_PT; Good; A:RegistrationsPreempted A_TWO:RegistrationsP
 allows A r-o
 allows A_TWO r-o
 
-the last port of all registrants
+all registrants hold until the last port is unregistered
 A Register 0 0 11 ALL_TG_PT; Good;; 1; 11 11; 0 0
 A Reserve 7 11 0 ALL_TG_PT; Good;; 1; 11 11; 0 7
 B Register 0 0 22 ALL_TG_PT; Good;; 2; 11 11 22 22; 0 7
