@@ -1,7 +1,7 @@
 //! Commands whose flush comes behind them, beside what others do.
 use crate::controllers::events::rows::Act::{
-    Again, AgainLate, Attach, Begin, BeginAgainLate, BeginLate, Collect, Detach, Done, Failed, Move,
-    Post, Serve, Submit, SubmitLate, Take,
+    Again, AgainLate, Attach, Begin, BeginAgainLate, BeginLate, Collect, Detach, Done, Failed,
+    Move, Post, Serve, Submit, SubmitLate, Take,
 };
 use crate::controllers::events::rows::Asks::{Synchronize, Test, Write, WriteBeyond, WriteFua};
 use crate::controllers::events::rows::At::{Flushes, Idle, Returned};
