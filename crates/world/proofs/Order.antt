@@ -268,7 +268,7 @@ module _ (claims : Bool) (units : ℕ) (opening : ℕ → UnitState) where
   pub reached_holds : (w : Scene) → IsReached claims units opening w → Holds w
   reached_holds w is = steps_hold start w is.events is.steps (start_holds is.opens)
 
-  -- ---- the four sentences
+  -- ---- the five sentences
 
   module _ (w : Scene) (holds : Holds w) where
     what_of : (i : ℕ) (a : Note) (what : What) → IsNoted w.traffic.notes i a → a.what ≡ what
@@ -300,7 +300,8 @@ module _ (claims : Bool) (units : ℕ) (opening : ℕ → UnitState) where
     orderly = record {
       legal = holds.legal;
       own = λ i a job reply at is what.
-          let ok = (what_of i a (HasReply job reply at) is what).1 in ((ok.entry, ok.there, ok.is), ok.replies);
+          let of = what_of i a (HasReply job reply at) is what in
+          let ok = of.1 in (of.2, (ok.entry, ok.there, ok.is), ok.replies);
       once = λ place session serial at other. (holds.sound place).unit.once at other session serial;
       none = λ i at a is none of. none_of i at a a.what none ((holds.sound a.place).what i a is refl) of;
       late = λ i a job told at is_flushed is what. (what_of i a (Settled job told at is_flushed) is what).1;

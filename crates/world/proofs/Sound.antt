@@ -1,6 +1,6 @@
 -- What carries the order of a world through its steps, of the unit at one place.
 use Rattle.std.proofs.Common.{◌≡◌, ◌≢◌, ◌⊎◌, inl, inr, ⊎_elim, ℕ, zero, suc, ◌+◌, ◌<◌, ◌≤◌, Bool, true, false, nat_eq}
-use Rattle.std.proofs.Common.{List, [], ◌∷◌, ◌++◌, length, Some, Result, refl, sym, ap, subst, ◌∙◌, arith, append_assoc}
+use Rattle.std.proofs.Common.{List, [], ◌∷◌, ◌++◌, length, Some, None, Result, refl, sym, ap, subst, ◌∙◌, arith, append_assoc}
 use Rattle.std.specs.Prelude.{MatchOption, slice_get, slice_set}
 use Rattle.std.proofs.lemmas.Bool.Decides.{eqb_tells}
 use Rattle.std.proofs.lemmas.List.Sums.{sum_by_push}
@@ -217,7 +217,7 @@ module _ (claims : Bool) (s : UnitState) where
   WhatOk h notes i a Submitted = (at : ℕ) → IsEntryOf h at a.session a.serial → a.count ≤ at
   WhatOk h notes i a FlushBegan = Unit {0}
   WhatOk h notes i a (HasReply job reply at) =
-      (at < a.count) × HasEntry claims s h a.session a.serial job.by_group job.asked job.bytes reply at
+      (at < a.count) × HasEntry claims s h a.session a.serial job.by_group job.asked job.bytes reply at × (job.late ≡ None)
   WhatOk h notes i a (Settled job told at is_flushed) =
       (at < a.count) × IsSettledAt claims (Lasts notes i a at is_flushed) s h a.session a.serial job told at
   WhatOk h notes i a Busy = (at : ℕ) → IsEntryOf h at a.session a.serial → IsSubmittedBehind notes i a at
@@ -525,7 +525,7 @@ module _ (claims : Bool) (s : UnitState) where
         (entry_pushed h e at a.session a.serial of)
     what_later i a FlushBegan same is unit le ok = ok
     what_later i a (HasReply job reply at) same is unit le ok =
-        (ok.0, entry_stays h e a.session a.serial job.by_group job.asked job.bytes reply at ok.1)
+        (ok.0, entry_stays h e a.session a.serial job.by_group job.asked job.bytes reply at ok.1, ok.2)
     what_later i a (Settled job told at is_flushed) same is unit le ok =
         (ok.0, settled_later (Lasts notes i a at is_flushed) h e a.session a.serial job told at ok.1)
     what_later i a Busy same is unit le ok = ended_more i a is (subst (λ (w : What). IsNone w) (sym same) tt) unit ok

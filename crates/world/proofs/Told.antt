@@ -140,7 +140,7 @@ module _ (claims : Bool) (s : UnitState) (place : ℕ) (h : List Entry) where
         → IsSound (replied count t n x job late reply k next)
     sound_replied count job None is_late reply k next legal is ok =
         told_so count next (HasReply job reply k) (λ no. no) is (λ at. ((ok at).0, (ok at).1))
-        (λ at. (entry_before count k job.by_group job.asked job.bytes reply (is at) (ok at).2, (ok at).2))
+        (λ at. (entry_before count k job.by_group job.asked job.bytes reply (is at) (ok at).2, (ok at).2, is_late))
     sound_replied count job (Some asked) is_late reply k next legal is ok =
         put_off_or_not count (record job { asked = asked; late = None }) reply k next (is_good reply.status) refl legal is
         (λ at. (

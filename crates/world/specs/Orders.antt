@@ -1,5 +1,5 @@
 -- What holds of the world over every list of events.
-use Rattle.std.specs.Prelude.{◌≡◌, ℕ, ◌<◌, ◌≤◌, Bool, true, List, [], ◌∷◌, ◌++◌, length, Result, Some, slice_get}
+use Rattle.std.specs.Prelude.{◌≡◌, ℕ, ◌<◌, ◌≤◌, Bool, true, List, [], ◌∷◌, ◌++◌, length, Result, Some, None, slice_get}
 use Rattle.scsi_types.specs.ReplyValue.{ReplyValue}
 use Rattle.scsi_types.specs.declared.names.Group.{Group}
 use Rattle.unit_control.specs.State.{UnitState}
@@ -75,10 +75,10 @@ pub record IsSettledAt (claims : Bool) (lasts : Type 0) (s : UnitState) (history
 pub record IsOrderly (claims : Bool) (opening : ℕ → UnitState) (w : Scene) : Type 0 where
   -- the history of each unit is legal;
   pub legal : (place : ℕ) → IsHistory claims (opening place) (w.past place)
-  -- each reply that a session collected is that of its own command's entry, unless its flush came behind it;
+  -- each reply that a session collected is that of the entry of its own command, as it was asked, unless its flush came behind it;
   pub own : (i : ℕ) (a : Note) (job : Job) (reply : ReplyValue) (at : ℕ) → IsNoted w.traffic.notes i a
       → a.what ≡ HasReply job reply at
-      → ((e : Entry) × (slice_get (w.past a.place) at ≡ Some e)
+      → (job.late ≡ None) × ((e : Entry) × (slice_get (w.past a.place) at ≡ Some e)
       × IsCommand a.session a.serial job.by_group job.asked job.bytes e)
       × IsReplyAt claims (opening a.place) (w.past a.place) at reply
   -- where its flush came behind it, the command as it was asked could stand in the place of its entry, answered as the session was told:
