@@ -23,8 +23,6 @@ use std::fs::File;
 use std::marker::Brand;
 use std::process::ExitCode;
 use std::rt::Files;
-use std::sync::Wait;
-use std::thread::Threads;
 use std::time::Clock;
 use std::{env, io};
 
@@ -68,27 +66,16 @@ fn complain(rt: &impl Eprint, fault: Fault) -> ExitCode
 }
 
 // The same, behind a line in the log where what was asked for is none that there is.
-fn refuse<
-    R: Threads
-        + Wait
-        + Clock
-        + Env
-        + AllocGlobal
-        + Files<File = File>
-        + Eprint
-        + Clone
-        + Drop
-        + Send
-        + 'static,
->(rt: &R, alloc: Global, fault: Fault, what: &str) -> ExitCode
+fn refuse<R: Clock + Env + AllocGlobal + Files<File = File> + Eprint + Clone + Drop>(
+    rt: &R,
+    alloc: Global,
+    fault: Fault,
+    what: &str,
+) -> ExitCode
     ensures { exit_status result ≡ status_of fault }
 {
-    if fault == Fault::WrongWords
-        && let Ok((log, Some(file))) = asked_log(rt, alloc)
-        && start::<R, LogFile<R>>(rt, alloc, &log, file).is_ok()
-    {
-        log.tell(rt, &Event::WrongWords(what.as_bytes()));
-        event_log::close(rt, &log);
+    if fault == Fault::WrongWords {
+        let _ = log_file::write_one(rt, alloc, &Event::WrongWords(what.as_bytes()));
     }
     complain(rt, fault)
 }
@@ -132,7 +119,7 @@ fn main(rt: HostRuntime) -> ExitCode {
     }
     let settings = match settings::read(&rt) {
         Ok(settings) => settings,
-        Err((fault, variable)) => return refuse(&rt, alloc, fault, variable),
+        Err(refused) => return refuse(&rt, alloc, refused.0, refused.1),
     };
     options.second_host = settings.second_host;
     let asked = &settings.asked;
