@@ -21,11 +21,11 @@ pub record FileValue (B : Type 0) : Type 0 where
 
 -- ---- what the blocks may hold after a crash
 
--- the root names this version and slot
+-- the root names this version and slot, whatever a crash leaves of its block
 abbrev pub RootLasts : (ℕ → List ℕ → Type 0) → FileVersion → Slot → Type 0
 RootLasts may_hold version slot = (value : List ℕ) → may_hold 0 value → value ≡ root_block version slot
 
--- the root names one slot, or in version 2 the other
+-- the root names one slot, or in version 2 the other, whatever a crash leaves of its block
 abbrev pub SomeRootLasts : (ℕ → List ℕ → Type 0) → FileVersion → Slot → Type 0
 SomeRootLasts may_hold version slot = (value : List ℕ) → may_hold 0 value
     → (value ≡ root_block version slot) ⊎ (value ≡ root_block Version2 (other_slot slot))
@@ -53,8 +53,8 @@ pub record IsUndecided (may_hold : ℕ → List ℕ → Type 0) (version : FileV
 
 -- ---- the records that a crash may leave
 
--- One record; or after a save whose root may have landed two, that of the slot that the root named before and the one
--- that was to be saved.
+-- One record. After a save whose root may have landed there are two: that of the slot that the root named before, and the one that was
+-- to be saved.
 abbrev pub IsAmong : (ℕ → List ℕ → Type 0) → FileVersion → Slot → Bool → List RecordValue → Type 0
 IsAmong may_hold version slot undecided [] = ⊥
 IsAmong may_hold version slot undecided (r ∷ []) = (undecided ≡ false) × IsDecided may_hold version slot r
@@ -80,7 +80,7 @@ abbrev pub first_of : List RecordValue → List RecordValue
 first_of [] = []
 first_of (r ∷ rs) = r ∷ []
 
--- what a crash may leave after a save of this record that failed there
+-- what a crash may leave after a save of this record that failed at this place
 abbrev pub left_by : SaveFault → List RecordValue → RecordValue → List RecordValue
 left_by OldRoot records saved = records
 left_by IdleSlot records saved = first_of records

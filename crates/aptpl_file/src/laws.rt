@@ -1,4 +1,4 @@
-//! What the definitions of a registration file say, in other words.
+//! What follows of `Holds` and `LastsAmong`.
 ghost use Rattle.std.specs.Prelude.{◌≡◌, List, ℕ};
 ghost use Rattle.registrants.specs.Registry.{RecordValue};
 ghost use Rattle.aptpl_file.specs.Holds.{Holds};
@@ -6,12 +6,12 @@ ghost use Rattle.aptpl_file.specs.Lasts.{EachOutcomeHolds, FileValue, LastsAmong
 
 use block_file::Blocks;
 
-/// Each record has one spelling: the same blocks hold no two.
+/// The same blocks hold no two records.
 pub fn one_record_is_held()
     ensures { (disk : List (List ℕ)) (r s : RecordValue) → Holds disk r → Holds disk s → r ≡ s }
 {}
 
-/// A crash of a file's device leaves a file that holds one of the records among which it lasts.
+/// A crash of a file's device leaves a disk that holds one of the records that `LastsAmong` names.
 pub fn each_outcome_holds_one_of_them<B: Blocks>()
     ensures { (file : FileValue B) (records : List RecordValue) → LastsAmong B.size B.may_hold file records
         → EachOutcomeHolds (B.size file.device) (B.may_hold file.device) records }

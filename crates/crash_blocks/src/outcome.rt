@@ -14,11 +14,11 @@ use block_file::BLOCK_LENGTH;
 /// What a crash leaves of a block that had some values since the last flush.
 #[derive(Clone, Copy, Debug, PartialEq, Eq)]
 pub enum Pick {
-    /// What the last flush made last.
+    /// The value that the latest flush made durable.
     Oldest,
     /// What reads return.
     Newest,
-    /// Of the values of block `i`, the oldest first, the one at `i` and this number, modulo their count.
+    /// Of block `k` the value at place `(k + turn)` modulo their count, the oldest at 0.
     Turn(u32),
 }
 
@@ -43,7 +43,7 @@ impl Pick {
 }
 
 /// What a block has gone through: what it holds, how often it was written since the last flush, and the value at a place
-/// among those that it had since.
+/// among those that it had since, where it was written that often.
 #[derive(Clone, Copy)]
 pub struct Gone {
     pub holds: [u8; BLOCK_LENGTH],
@@ -51,7 +51,7 @@ pub struct Gone {
     pub picked: [u8; BLOCK_LENGTH],
 }
 
-/// A block of bytes.
+/// Block `k` of these bytes.
 pub fn block_in(bytes: &[u8], k: usize) -> [u8; BLOCK_LENGTH]
     requires { BLOCK_LENGTH * k + BLOCK_LENGTH ≤ length bytes.now }
     ensures { result ≡ take BLOCK_LENGTH (drop (BLOCK_LENGTH * k) bytes.now) }
@@ -62,7 +62,7 @@ pub fn block_in(bytes: &[u8], k: usize) -> [u8; BLOCK_LENGTH]
     block
 }
 
-/// One event more, where the value at place `wanted` of block `k` is looked for.
+/// One event more of block `k`, of whose values the one at place `wanted` is to be found.
 pub fn go_on(gone: &mut Gone, event: &Event, k: u32, wanted: u64)
     requires few { gone.old.written + 1 < 2 ^ 64 }
     ensures written { gone.new.written ≤ gone.old.written + 1 }
@@ -116,7 +116,7 @@ pub fn gone_through(start: &[u8], events: &[Event], k: u32, wanted: u64) -> Gone
     gone
 }
 
-/// What a crash leaves of block `k`, by this pick.
+/// What a crash leaves of block `k`, by this pick. The events are gone through twice: to count the values, and to find the one.
 pub fn left_of(start: &[u8], events: &[Event], k: u32, pick: Pick) -> [u8; BLOCK_LENGTH]
     requires within { BLOCK_LENGTH * k + BLOCK_LENGTH ≤ length start.now }
     ensures { (size : ℕ) → length start.now ≡ BLOCK_LENGTH * size → k < size

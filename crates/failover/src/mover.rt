@@ -15,7 +15,7 @@ use unit_state::MoveFault;
 /// A parameter list of SET TARGET PORT GROUPS with a descriptor for each group (SPC-4, 6.45).
 pub type GroupsList = [u8; 12];
 
-/// The way to the units for who is to move them and nothing else. Each move that is asked by it is kept, with its end.
+/// The way to the units of one who moves them, and does nothing else with them. Each move that is asked by it is kept, with its end.
 pub trait Moves {
     /// How many units there are.
     ghost units: { Self → ℕ };
@@ -23,7 +23,7 @@ pub trait Moves {
     /// The moves that were asked, the first first.
     ghost moved: { Self → List Move };
 
-    /// What such a move shows.
+    /// What the history of a move shows: the move as its last entry, or why the unit stays (`IsMade`).
     ghost made: { Move → Type 0 };
 
     /// How many units there are.
@@ -45,7 +45,7 @@ pub trait Moves {
             × (m.place ≡ place) × (m.list ≡ list.now) × (m.end ≡ result) × made m };
 }
 
-/// A move, as it is kept.
+/// A move that was asked, as it is kept: also one that was not done.
 #[derive(Drop)]
 struct Moved<B: Blocks, F: Blocks, O: Opener<B>, N: Array<Opened>> {
     list: GroupsList,
@@ -61,7 +61,7 @@ impl<B: Blocks, F: Blocks, O: Opener<B>, N: Array<Opened>> Model for Moved<B, F,
     ghost view = { λ m. record { place = m.seen.0; list = m.list; seen = m.seen.1; end = m.end } };
 }
 
-/// Moves that were asked, the first first. It has room for eight.
+/// Moves that were asked, the first first. It has room for eight. Nothing reads them: contracts say by them what was moved, and what not.
 #[derive(Drop)]
 struct Kept<B: Blocks, F: Blocks, O: Opener<B>, N: Array<Opened>> {
     moves: [Option<Moved<B, F, O, N>>; MOST_UNITS],
@@ -80,7 +80,7 @@ impl<B: Blocks, F: Blocks, O: Opener<B>, N: Array<Opened>> Model for Kept<B, F, 
 }
 
 impl<B: Blocks, F: Blocks, O: Opener<B>, N: Array<Opened>> Kept<B, F, O, N> {
-    // None yet.
+    // With no move.
     fn new() -> Kept<B, F, O, N>
         ensures { result ≡ [] }
     {
@@ -90,7 +90,7 @@ impl<B: Blocks, F: Blocks, O: Opener<B>, N: Array<Opened>> Kept<B, F, O, N> {
         }
     }
 
-    // One more.
+    // Keeps one more.
     fn push(&mut self, moved: Moved<B, F, O, N>)
         requires { length self.old < 8 }
         ensures { self.new ≡ self.old ++ moved ∷ [] }
@@ -116,7 +116,7 @@ impl<'a, B: Blocks, F: Blocks, O: Opener<B>, N: Array<Opened>> Model for Mover<'
 }
 
 impl<'a, B: Blocks, F: Blocks, O: Opener<B>, N: Array<Opened>> Mover<'a, B, F, O, N> {
-    /// By it no move was asked yet.
+    /// One by which no move was asked yet.
     pub fn new(units: &'a Units<B, F, O, N>) -> Mover<'a, B, F, O, N>
         ensures units { result.units ≡ units.now }
         ensures moved { result.moved ≡ [] }

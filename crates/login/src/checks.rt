@@ -1,4 +1,4 @@
-//! The checks of a login request, in their order.
+//! Rules by which a Login Request is refused. Their order stands in `Negotiation::stop`.
 ghost use Rattle.std.specs.Prelude.{◌≡◌, count_by, option_map};
 ghost use Rattle.login.specs.Text.{is_byte, pairs};
 ghost use Rattle.login.specs.Refusal.{is_stage, may_go, has_wrong_flags, is_too_long, has_repeated, stands_from_first};
@@ -19,7 +19,8 @@ pub const MOST_PAIRS: usize = 64;
 /// The most bytes of a name.
 const LONGEST_NAME: usize = 223;
 
-/// Whether T comes with C, or the request is of another stage, or asks for a transition that there is not.
+/// Whether T comes with C, or the request is of another stage than the current one, or asks for a transition that there is not. Before
+/// the first request there is no current stage.
 pub fn has_wrong_flags(stage: Option<u8>, flags: LoginFlags) -> bool
     ensures { result ≡ has_wrong_flags stage flags }
 {
@@ -28,6 +29,7 @@ pub fn has_wrong_flags(stage: Option<u8>, flags: LoginFlags) -> bool
         || flags.transit && !may_go(flags.current_stage, flags.next_stage)
 }
 
+// Stages are 0 security, 1 operational and 3 full feature (RFC 7143, 11.12.3). A login begins in one of the first two.
 fn is_stage(stage: Option<u8>, now: u8) -> bool
     ensures { result ≡ is_stage stage now }
 {
@@ -52,14 +54,14 @@ pub fn is_too_long(said: &[u8], text: &[u8]) -> bool
     bytes > MOST_BYTES as u128 || pairs > MOST_PAIRS as u128
 }
 
-/// How many pairs end in a text.
+/// How many zero bytes a text has: each ends a pair, whatever stands before it.
 pub fn count_of_pairs(text: &[u8]) -> usize
     ensures { result ≡ count_by (is_byte 0) text.now }
 {
     text.iter().filter(|byte| **byte == 0).count()
 }
 
-/// Whether a key of a text stands in an earlier one or again behind it.
+/// Whether a key stands twice, in this text or in an earlier one. Behind the first request the keys of `stands_from_first` may come again.
 pub fn has_repeated(first: bool, said: &[u8], text: &[u8]) -> bool
     ensures { result ≡ has_repeated first (pairs said.now) (pairs text.now) }
 {
@@ -74,7 +76,7 @@ pub fn has_repeated(first: bool, said: &[u8], text: &[u8]) -> bool
     false
 }
 
-/// Whether what the first request said of this key stands.
+/// Whether what the first request said of this key stands: a later one may say it again, and is not heard.
 fn stands_from_first(key: &[u8]) -> bool
     ensures { result ≡ stands_from_first (key_named key.now) }
 {
@@ -101,7 +103,7 @@ fn has_bad_length(least: usize, name: Option<&[u8]>) -> bool
     }
 }
 
-/// The session type that a text asks for.
+/// The session type that a text asks for: Normal where it says none. None where its value is neither.
 pub fn kind_of(text: &[u8]) -> Option<SessionType>
     ensures { result ≡ kind_of (pairs text.now) }
 {

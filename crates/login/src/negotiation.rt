@@ -20,8 +20,8 @@ use std::alloc::Global;
 use std::marker::Model;
 
 /// The longest text of a response (bytes). A request that is answered has at most 8192 bytes and 64 pairs, with the
-/// others of its run; the answer to a pair is at most 14 bytes longer than the pair; and what the target says by itself
-/// has at most 58. Together that is 9146, here rounded up to 9 KiB.
+/// others of its run; the answer to a pair is at most 14 bytes longer than the pair, which may lack its `=`; and what the
+/// target says by itself has at most 58. Together that is 9146, here rounded up to 9 KiB.
 pub const LONGEST_RESPONSE: u32 = 9216;
 
 /// What a login request comes to.
@@ -42,11 +42,15 @@ pub enum LoginEnd {
 /// The negotiation of a login, from its first request on. It takes all its memory when it is made.
 #[derive(Drop)]
 pub struct Negotiation {
+    // The target's name, and the tag of the portal's group.
     target: Vec<u8>,
     tag: u16,
+    // The stage, and the session type: none before the first request was answered.
     stage: Option<u8>,
     kind: Option<SessionType>,
+    // Whether the target has told its MaxRecvDataSegmentLength.
     declared: bool,
+    // The texts that were answered, one behind the other, and that of a run of requests which goes on.
     said: Vec<u8>,
     unfinished: Vec<u8>,
 }
@@ -92,8 +96,8 @@ impl Negotiation {
         })
     }
 
-    /// Answers a Login request, of whose header these fields are looked at, with this text. The text of the response, or
-    /// the InitiatorName of a request that names a session, takes the place of what stood in `out`.
+    /// What a Login Request with these fields of its header and this text comes to. `out` then has the text of the response, which is
+    /// empty behind a request that is to go on (C), or the InitiatorName behind `NamesSession`, else nothing.
     #[tactic(auto, unfolding(crate::specs::Request::answer_to, crate::specs::Request::after))]
     pub fn request(&mut self, out: &mut Vec<u8>, flags: LoginFlags, text: &[u8]) -> LoginEnd
         requires room { LONGEST_RESPONSE ≤ vec_capacity out.old }
@@ -165,7 +169,7 @@ impl Negotiation {
         }
     }
 
-    /// The first check that the request does not pass.
+    /// How the request is refused: by the first check that it does not pass.
     #[tactic(auto, unfolding(crate::specs::Refusal::stop_of))]
     fn stop(&self, flags: LoginFlags, whole: &[u8]) -> Option<Stop>
         ensures { result ≡ stop_of self.now flags whole.now }
@@ -186,7 +190,7 @@ impl Negotiation {
         }
     }
 
-    /// The first check behind that of its flags that a first request does not pass.
+    /// The same of a login's first request, behind the check of its flags.
     fn stop_of_first(&self, flags: LoginFlags, whole: &[u8]) -> Option<Stop>
         requires { is_none self.now.kind ≡ true }
         ensures { result ≡ first_stop checks_of_first self.now flags whole.now }
@@ -209,7 +213,7 @@ impl Negotiation {
         self.stop_by_names(flags, whole)
     }
 
-    /// The first check that the names, the session and the authentication of a first request do not pass.
+    /// The same by the names, the session and the authentication of that request.
     fn stop_by_names(&self, flags: LoginFlags, whole: &[u8]) -> Option<Stop>
         ensures { result ≡ first_stop checks_of_names self.now flags whole.now }
     {
@@ -235,7 +239,7 @@ impl Negotiation {
         None
     }
 
-    /// The first check behind that of its flags that a later request does not pass.
+    /// The same of a later request, behind the check of its flags.
     fn stop_of_later(&self, flags: LoginFlags, whole: &[u8]) -> Option<Stop>
         requires { is_none self.now.kind ≡ false }
         ensures { result ≡ first_stop checks_of_later self.now flags whole.now }
@@ -255,7 +259,7 @@ impl Negotiation {
         None
     }
 
-    /// Goes on behind a request that passed the checks; its text is unfinished.
+    /// Goes on behind a request that passed the checks, whose text stands in `unfinished`.
     fn proceed(&mut self, out: &mut Vec<u8>, flags: LoginFlags) -> LoginEnd
         requires empty { length out.old.items ≡ 0 }
         requires room { LONGEST_RESPONSE ≤ vec_capacity out.old }

@@ -1,4 +1,4 @@
-//! What is said of sessions, in a storage engineer's words.
+//! What follows of what sessions hand out when they have left a unit.
 ghost use Rattle.std.specs.Prelude.{◌≡◌, ◌⊎◌, All, AllPairs, List, ℕ, false, true, length};
 ghost use mathlib.Core.List.{IsPrefix};
 ghost use Rattle.unit_control.specs.State.{UnitState};
@@ -15,9 +15,8 @@ use crate::gate::Gate;
 use crate::units::{LogicalUnits, Pass};
 use unit_state::laws::serials_count_commands;
 
-/// What a session has done behind a gate that flushes late, it has done as it was asked and told in a history of the model, over any
-/// device. That leads to the same state at each place as the one that was seen, and differs from it in entries of the session's own
-/// alone.
+/// Put each of a session's commands, as it was asked and answered, in the place of its entry. The history is then still legal over any
+/// device, leads to the same state at each place, and differs in entries of the session's own alone.
 pub fn what_was_told_stands_in_one_history<U: LogicalUnits<P, H>, P: Pass, H: Drop, G: Gate>()
     ensures { (s : UnitState) (unit : ℕ) (nexus : Nexus) (done : List Done) (history : List Entry)
         → (is : HasDone U.claims (late_at (late_of G.is_late G.lasts) unit) s nexus done history)
@@ -25,9 +24,9 @@ pub fn what_was_told_stands_in_one_history<U: LogicalUnits<P, H>, P: Pass, H: Dr
         × AreAlike (λ n. n ≡ length is.before) s history told }
 {}
 
-/// All that the sessions of a unit have done behind such a gate, each has done as it was asked and told in one history of the model,
-/// over any device. Each history that a session hands out leads to the same state at each place as its beginning, and differs from it
-/// in commands of these sessions alone.
+/// So it is for all sessions that have left a unit together: there is one legal history in which each of their commands stands as it was
+/// asked and answered. What a session has seen leads to the same state at each place as the beginning of that history, and differs from
+/// it in own entries of these sessions alone.
 pub fn all_that_was_told_stands_in_one_history<U: LogicalUnits<P, H>, P: Pass, H: Drop, G: Gate>()
     ensures { (s : UnitState) (unit : ℕ) (leavers : List (Leaver U.claims (late_at (late_of G.is_late G.lasts) unit) s))
         → AllPairs (AreTwo U.claims (late_at (late_of G.is_late G.lasts) unit) s) leavers
@@ -35,9 +34,8 @@ pub fn all_that_was_told_stands_in_one_history<U: LogicalUnits<P, H>, P: Pass, H
         × All (StandsIn U.claims (late_at (late_of G.is_late G.lasts) unit) s told leavers) leavers }
 {}
 
-/// Two sessions are two in the history of a unit, also two of one nexus. What a session hands out names its own Attach: its number is
-/// the place of that, no entry before it has this number, and those that have it are the session's own. An entry is no other session's
-/// too, and at one place of one history one nexus has attached.
+/// A session's own entries are those with its number, which is the place of its own Attach. So it shares none with another session, also
+/// with an older one of its nexus: no entry before its Attach has this number, none has two, and at one place one nexus has attached.
 pub fn two_sessions_share_no_entry<U: LogicalUnits<P, H>, P: Pass, H: Drop, G: Gate>()
     ensures attach { (s : UnitState) (unit : ℕ) (nexus : Nexus) (done : List Done) (history : List Entry)
         → (is : HasDone U.claims (late_at (late_of G.is_late G.lasts) unit) s nexus done history)

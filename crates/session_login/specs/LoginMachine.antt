@@ -1,4 +1,4 @@
--- What the login phase of a session keeps between what a PDU comes to and what goes out.
+-- One turn of a login: what came, what it comes to, what the target is asked, and what goes out.
 use Rattle.std.specs.Prelude.{◌≡◌}
 use Rattle.session_rules.specs.Words.{ℕ, List, Option, Header, Initiator, LoginRequest, Progress, Ending, answer_to}
 use Rattle.session_rules.specs.{Asking.Asking, Turn.Incoming, Turn.bytes_of, Turn.IsLed}
@@ -7,18 +7,20 @@ use Rattle.session_rules.specs.declared.login_outcome.LoginOutcome.TheVariants.{
 use Rattle.session_rules.specs.LoginPhase.{flags_of, ending_text, LoginTurn, LoginStanding, login_after, IsLoginTurn}
 use Rattle.session_stream.specs.Outbox.{OutboxValue, IsQueued}
 
--- where a request passed, this is the text of its response
+-- where a request is answered, this is the text of its response
 abbrev pub HasText : Ending → LoginOutcome → List ℕ → Type 0
 HasText e GoesOn text = text ≡ ending_text e
 HasText e (Begun tsih) text = text ≡ ending_text e
 HasText e (Refused status) text = Unit {0}
 HasText e (Rejected reason) text = Unit {0}
 
+-- the same of any PDU; of one that is no Login Request nothing is said
 abbrev pub IsTextOf : Progress → Header → List ℕ → LoginOutcome → List ℕ → Type 0
 IsTextOf s (Initiator (LoginRequest p)) d o text = HasText (answer_to s (flags_of p) d) o text
 IsTextOf s h d o text = Unit {0}
 
--- a turn of a login, and what it came to
+-- A turn of login phase, target and outbox: what came and what it comes to, what the target was asked and where that led it, and the bytes
+-- that are to go out. `held` is what the sink has, `before` and `now` how often it has failed, `o` the outbox.
 pub record MakesLoginTurn {T : Type 0} (leads : T → Asking → T → Type 0)
     (v v' : LoginStanding) (target target' : T) (held held' : Option (List ℕ)) (before now : ℕ) (o o' : OutboxValue)
     (came : Incoming) (outcome : LoginOutcome) : Type 0 where

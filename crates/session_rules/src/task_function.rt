@@ -28,10 +28,10 @@ impl TaskFunction {
     }
 }
 
-/// What a request comes to.
+/// What a request comes to. Which commands that wait it drops is said in `specs/Drops`.
 #[derive(Clone, Copy)]
 pub enum Management {
-    /// This response.
+    /// This response code (11.6.1).
     Respond(u8),
     /// A reset of this unit, which is there.
     Reset(u8),

@@ -54,7 +54,7 @@ refusal_reply (Check s) = check s
 abbrev pub tell : ControlValue → ℕ → ControlValue
 tell c session = record c { sessions = told c.sessions session }
 
--- and what telling it changes: an attention that was told is pending no more; else nothing
+-- what a refusal changes: an attention that is told with it is pending no more; else nothing
 abbrev pub refusal_control : ControlValue → ℕ → Refusal → ControlValue
 refusal_control c session (Attention attention) = tell c session
 refusal_control c session Conflict = c
@@ -81,8 +81,8 @@ opcode_by (Some op) = None
 abbrev pub opcode_rule : Rule
 opcode_rule c r = opcode_by (kind_asked r.asked)
 
--- the access state of the group by which the session's commands come lets its ports serve none of this kind, whatever its
--- fields (SPC-4, 5.15.2.4)
+-- The group by which the session's commands come is in a state in which its ports serve no command of this kind, whatever its fields
+-- (SPC-4, 5.15.2.4).
 abbrev pub access_by : AccessState → Option Op → Option Refusal
 access_by state None = None
 access_by state (Some op) = option_map Check (refusal_in state op)
@@ -93,7 +93,7 @@ state_for c session = (group_access c.access (sender_of c.sessions session).grou
 abbrev pub access_rule : Rule
 access_rule c r = access_by (state_for c r.session) (kind_asked r.asked)
 
--- the reservation does not let the nexus do this (SPC-4, 5.13.1)
+-- whether the reservation lets the nexus do this (SPC-4, 5.13.1)
 abbrev pub is_let : ControlValue → Nexus → Access → Bool
 is_let c nexus access = is_let_through c.registry.reservation (party_of c.registry nexus) access
 
@@ -104,7 +104,8 @@ conflict_by false = Some Conflict
 abbrev pub conflict_rule : Rule
 conflict_rule c r = conflict_by (is_let c (sender_of c.sessions r.session) (access_of (kind_asked r.asked)))
 
--- a field of the CDB is bad, such as more blocks than the command may have, or less data came than it needs
+-- A field of the CDB is bad, such as more blocks than the command may have, which `decode` finds too and which holds here of any command
+-- that is handed in; or less data came than the command needs.
 abbrev pub field_by : Result Command CdbFault → List ℕ → Option Refusal
 field_by (Ok command) bytes =
     if nat_lt (length bytes) (need_of (Ok command)) || is_too_long (work_of command bytes) then Some (Check invalid_field_in_cdb) else None
@@ -160,7 +161,7 @@ range_rule c r = range_by c.total (range_of (work_asked r.asked r.bytes))
 abbrev pub reserve_list_by : ℕ → Option Refusal
 reserve_list_by list_length = if nat_eq list_length reserve_list_length then None else Some (Check parameter_list_length_error)
 
--- that of SET TARGET PORT GROUPS is one that the access states can follow (SPC-4, 6.45)
+-- the list of SET TARGET PORT GROUPS is one that the access states can follow (SPC-4, 6.45)
 abbrev pub groups_list_by : Result AccessMapValue AsetFault → Option Refusal
 groups_list_by (Ok new) = None
 groups_list_by (Err fault) = Some (Check (fault_sense fault))
@@ -176,7 +177,7 @@ list_by c asked bytes = refused_list c (list_asked asked) bytes
 abbrev pub list_rule : Rule
 list_rule c r = list_by c r.asked r.bytes
 
--- the rules in their order
+-- the rules in their order: the first one that refuses answers
 abbrev pub rules_of_unit : List Rule
 rules_of_unit =
     attention_rule ∷ opcode_rule ∷ access_rule ∷ conflict_rule ∷ field_rule ∷ saved_rule ∷ range_rule ∷ list_rule ∷ []
@@ -189,18 +190,18 @@ first_refusal (rule ∷ rules) c r = option_or (rule c r) (first_refusal rules c
 abbrev pub refusal : ControlValue → Request → Option Refusal
 refusal c r = first_refusal rules_of_unit c r
 
--- Nothing is to be told to the session first, and its command is one of this kind.
+-- No unit attention is to be told to the session first, and its command is one of this kind.
 pub record IsJudged (c : ControlValue) (session : ℕ) (asked : Result Command CdbFault) (op : Op) : Type 0 where
   pub nothing_first : first_pending c.sessions session ≡ None
   pub kind : kind_asked asked ≡ Some op
 
--- The ports of its group may not serve it.
+-- The ports of the session's group may not serve a command that is judged so.
 pub record IsUnserved (c : ControlValue) (session : ℕ) (asked : Result Command CdbFault) (op : Op)
     (s : Sense) : Type 0 where
   pub judged : IsJudged c session asked op
   pub not_served : refusal_in (state_for c session) op ≡ Some s
 
--- They may, and the reservation does not let it.
+-- The ports of the session's group may serve it, and the reservation does not let the session do so.
 pub record IsKeptOut (c : ControlValue) (session : ℕ) (asked : Result Command CdbFault) (op : Op) : Type 0 where
   pub judged : IsJudged c session asked op
   pub served : refusal_in (state_for c session) op ≡ None

@@ -10,12 +10,11 @@ use Rattle.scsi_types.specs.declared.attention.UnitAttention.TheVariants.{PowerO
 use Rattle.scsi_types.specs.declared.names.Group.TheVariants.{One}
 use Rattle.unit_control.specs.declared.sessions.Attached.{Attached}
 
--- The map's entries, by ascending id. One of them: the id, the nexus, the serial of the next command, and what is
--- pending.
+-- An item of the map, which goes by ascending id, has the id, the nexus, the serial of the next command, and what is pending. Its nexus:
 abbrev pub nexus_of : Attached → Nexus
 nexus_of a = record { port = a.port; group = a.group }
 
--- a session of this nexus, with this id, that had no command yet: it is told of the power on (SAM-5, 5.14)
+-- a session of this nexus, with this id, that had no command yet: it is to be told of the power on (SAM-5, 5.14)
 abbrev pub attached : Nexus → ℕ → Attached
 attached nexus id = record { id = id; port = nexus.port; group = nexus.group; next = 1; pending = PowerOn ∷ [] }
 
@@ -40,7 +39,7 @@ pending_of sessions id = pending_in (session_of sessions id)
 abbrev pub first_pending : List Attached → ℕ → Option UnitAttention
 first_pending sessions id = slice_get (pending_of sessions id) 0
 
--- its nexus; one that is not attached sends no command, and has none that a name tells
+-- its nexus; of one that is not attached an empty name, so that each id has one
 abbrev pub nexus_in : Option Attached → Nexus
 nexus_in None = record { port = record { name = []; isid = 0 }; group = One }
 nexus_in (Some a) = nexus_of a
@@ -48,13 +47,13 @@ nexus_in (Some a) = nexus_of a
 abbrev pub sender_of : List Attached → ℕ → Nexus
 sender_of sessions id = nexus_in (session_of sessions id)
 
--- the nexus of the session that attached last
+-- the nexus of the session that attached last, of those that are attached still
 abbrev pub last_nexus : List Attached → Nexus
 last_nexus [] = nexus_in None
 last_nexus (a ∷ []) = nexus_of a
 last_nexus (a ∷ b ∷ rest) = last_nexus (b ∷ rest)
 
--- no serial passes the count of entries
+-- its next serial is at most the count of entries
 abbrev pub IsFit : ℕ → Attached → Type 0
 IsFit count a = a.next ≤ count
 
@@ -84,7 +83,8 @@ told sessions id = changed tell_one sessions id
 abbrev pub ended : List Attached → ℕ → List Attached
 ended sessions id = filter (λ a. not (nat_eq a.id id)) sessions
 
--- the unit was reset by the session of this id: every other one is to be told so, and of nothing before it
+-- The unit was reset by the session of this id: every other one is to be told so, and of nothing before it. The condition is that of a
+-- power on, 29/00, which covers a reset too.
 abbrev pub heard_reset : ℕ → Attached → Attached
 heard_reset id a = if nat_eq a.id id then a else record a { pending = PowerOn ∷ [] }
 

@@ -1,4 +1,4 @@
--- Why a call adds no entry, as the history shows it.
+-- Why a call adds no entry: as the history shows it, or since there was no memory, or an open failed. Last, what a move tells.
 use Rattle.std.specs.Prelude.{◌≡◌, ◌≤◌, ◌⊎◌, ℕ, true, List, [], ◌∷◌, ◌++◌, None, Result, Err}
 use Rattle.access_states.specs.AccessMap.{owner_of}
 use Rattle.access_states.specs.Change.{change_between}
@@ -19,7 +19,7 @@ use Rattle.unit_state.specs.Step.{TakesMemory}
 use Rattle.unit_control.specs.Entry.{Entry, HasRoom, Move}
 use Rattle.unit_state.specs.History.{state_after}
 
--- behind the history no session of this nexus has room
+-- behind the history no session of this nexus may attach
 abbrev pub IsFull : UnitState → List Entry → Nexus → Type 0
 IsFull s history nexus = HasRoom (state_after s history).control nexus → ⊥
 
@@ -27,7 +27,7 @@ IsFull s history nexus = HasRoom (state_after s history).control nexus → ⊥
 abbrev pub IsAbsent : UnitState → List Entry → ℕ → Type 0
 IsAbsent s history session = session_of (state_after s history).control.sessions session ≡ None
 
--- behind it this session is not attached, or it has its last length
+-- behind the history this session is not attached, or the history has its last length
 abbrev pub IsGone : UnitState → List Entry → ℕ → Type 0
 IsGone s history session = IsAbsent s history session ⊎ (last_length ≤ (state_after s history).control.count)
 
@@ -35,12 +35,12 @@ IsGone s history session = IsAbsent s history session ⊎ (last_length ≤ (stat
 abbrev pub IsOwner : UnitState → List Entry → Group → Type 0
 IsOwner s history group = group ≡ owner_of (state_after s history).control.access
 
--- behind the history this command takes memory
+-- behind the history this command takes memory, so that the answer may be that there was none
 abbrev pub WantsMemory : UnitState → List Entry → ℕ → Result ScsiCommand CdbFault → List ℕ → Type 0
 WantsMemory s history session asked bytes = TakesMemory (state_after s history).control (request session asked bytes)
 
 -- The unit does not move as the list says: the history has its last length; the list is one that the access states cannot
--- follow; or it changes the owner, and the blocks could not be opened for the other.
+-- follow; or it changes the owner, for whom the blocks could then not be opened.
 abbrev pub StaysAt : ControlValue → List ℕ → MoveFault → Type 0
 StaysAt c list faults.Gone = last_length ≤ c.count
 StaysAt c list (faults.List fault) = move_by c list ≡ Err fault
