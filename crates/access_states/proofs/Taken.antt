@@ -239,6 +239,14 @@ two_down : (new : AccessMapValue) → new.one.state ≡ ActiveOptimized → new.
     → IsOkAnd (with_one_owner new) (λ m. (owner_of m ≡ One) × (m.two.state ≡ Unavailable))
 two_down new one two = grind (arith, common_steps)
 
+one_up : (new : AccessMapValue) → new.one.state ≡ ActiveOptimized → new.two.state ≡ ActiveNonOptimized
+    → IsOkAnd (with_one_owner new) (λ m. (owner_of m ≡ One) × (m.two.state ≡ ActiveNonOptimized))
+one_up new one two = grind (arith, common_steps)
+
+two_up : (new : AccessMapValue) → new.one.state ≡ ActiveNonOptimized → new.two.state ≡ ActiveOptimized
+    → IsOkAnd (with_one_owner new) (λ m. (owner_of m ≡ Two) × (m.one.state ≡ ActiveNonOptimized))
+two_up new one two = grind (arith, common_steps)
+
 -- the other of a group that becomes active/optimized is not
 given_way : (old : AccessMapValue) → IsTrue (has_one_owner old)
     → is_optimized (next_state old.two.state None old.one.state (Some ActiveOptimized)) ≡ false
@@ -275,3 +283,17 @@ pub takes_down_two : (cause : Cause) (old : AccessMapValue)
 takes_down_two cause old =
     two_down (map_after cause old (both_named ActiveOptimized Unavailable))
     (altered_state cause old.one ActiveOptimized) (altered_state cause old.two Unavailable)
+
+pub brings_up_one : (cause : Cause) (old : AccessMapValue)
+    → IsOkAnd (with_one_owner (map_after cause old (both_named ActiveOptimized ActiveNonOptimized)))
+    (λ m. (owner_of m ≡ One) × (m.two.state ≡ ActiveNonOptimized))
+brings_up_one cause old =
+    one_up (map_after cause old (both_named ActiveOptimized ActiveNonOptimized))
+    (altered_state cause old.one ActiveOptimized) (altered_state cause old.two ActiveNonOptimized)
+
+pub brings_up_two : (cause : Cause) (old : AccessMapValue)
+    → IsOkAnd (with_one_owner (map_after cause old (both_named ActiveNonOptimized ActiveOptimized)))
+    (λ m. (owner_of m ≡ Two) × (m.one.state ≡ ActiveNonOptimized))
+brings_up_two cause old =
+    two_up (map_after cause old (both_named ActiveNonOptimized ActiveOptimized))
+    (altered_state cause old.one ActiveNonOptimized) (altered_state cause old.two ActiveOptimized)

@@ -59,7 +59,8 @@ pub fn an_empty_list_changes_nothing()
         access_after cause map (a ∷ b ∷ c ∷ d ∷ []) ≡ Ok map }
 {}
 
-/// Whatever the states are, either group can be made the owner, and either taken down with the other as the owner.
+/// Whatever the states are, either group can be made the owner, either taken down with the other as the owner, and either brought up
+/// as the owner with the other beside it.
 pub fn a_move_is_always_taken()
     ensures to_one { (cause : Cause) (old : AccessMapValue) → IsTrue (has_one_owner old) →
         IsOkAnd (access_after cause old (0 ∷ 0 ∷ 0 ∷ 0 ∷ 0 ∷ 0 ∷ 0 ∷ 1 ∷ [])) (λ new. owner_of new ≡ One) }
@@ -71,6 +72,12 @@ pub fn a_move_is_always_taken()
     ensures two_down { (cause : Cause) (old : AccessMapValue) →
         IsOkAnd (access_after cause old (0 ∷ 0 ∷ 0 ∷ 0 ∷ 0 ∷ 0 ∷ 0 ∷ 1 ∷ 3 ∷ 0 ∷ 0 ∷ 2 ∷ [])) (λ new.
         (owner_of new ≡ One) × (new.two.state ≡ Unavailable)) }
+    ensures one_up { (cause : Cause) (old : AccessMapValue) →
+        IsOkAnd (access_after cause old (0 ∷ 0 ∷ 0 ∷ 0 ∷ 0 ∷ 0 ∷ 0 ∷ 1 ∷ 1 ∷ 0 ∷ 0 ∷ 2 ∷ [])) (λ new.
+        (owner_of new ≡ One) × (new.two.state ≡ ActiveNonOptimized)) }
+    ensures two_up { (cause : Cause) (old : AccessMapValue) →
+        IsOkAnd (access_after cause old (0 ∷ 0 ∷ 0 ∷ 0 ∷ 0 ∷ 0 ∷ 0 ∷ 2 ∷ 1 ∷ 0 ∷ 0 ∷ 1 ∷ [])) (λ new.
+        (owner_of new ≡ Two) × (new.one.state ≡ ActiveNonOptimized)) }
 {}
 
 /// What an unavailable group serves, every group serves; REPORT and SET TARGET PORT GROUPS are among it, so that a group
