@@ -8,7 +8,7 @@ use Rattle.login.specs.Progress.{Progress}
 use Rattle.login.specs.Refusal.{Rule, when, or_else, first_stop, stop_of, rules_for, rules_of_part}
 use Rattle.login.specs.Refusal.{flags_rule, checks_of_first, checks_of_later, checks_of_names, version_rule}
 use Rattle.login.specs.Refusal.{length_rule, form_rule, repeated_rule, name_rule, initiator_rule, kind_rule}
-use Rattle.login.specs.Refusal.{target_rule, other_target_rule, session_rule, authentication_rule, kind_of}
+use Rattle.login.specs.Refusal.{target_rule, other_target_rule, session_rule, authentication_rule, session_type_of}
 use Rattle.login.specs.Request.{after, after_by, passed, response, group_text, length_text, tells_length, kind_after}
 use Rattle.login.specs.declared.status.SessionType.{SessionType}
 use Rattle.login.specs.declared.status.LoginFlags.{LoginFlags}
@@ -42,7 +42,7 @@ when_none None stop h = cc
 when_none (Some k) stop h = search rules
 
 kind_known : (s : Progress) (f : LoginFlags) (t : List ℕ) → first_stop checks_of_first s f t ≡ None
-    → IsSome (kind_of (pairs t))
+    → IsSome (session_type_of (pairs t))
 kind_known s f t h =
     let a = behind version_rule (length_rule ∷ form_rule ∷ repeated_rule ∷ name_rule ∷ checks_of_names) s f t h in
     let b = behind length_rule (form_rule ∷ repeated_rule ∷ name_rule ∷ checks_of_names) s f t a in
@@ -51,9 +51,9 @@ kind_known s f t h =
     let e = behind name_rule checks_of_names s f t d in
     let later : List Rule = target_rule ∷ other_target_rule ∷ session_rule ∷ authentication_rule ∷ [] in
     let g = behind initiator_rule (kind_rule ∷ later) s f t e in
-    when_none (kind_of (pairs t)) (Refused SessionTypeNotSupported) (first_none (kind_rule s f t) (first_stop later s f t) g)
+    when_none (session_type_of (pairs t)) (Refused SessionTypeNotSupported) (first_none (kind_rule s f t) (first_stop later s f t) g)
 
-kind_after_known : (kind : Option SessionType) (ps : List Pair) → (is_none kind ≡ true → IsSome (kind_of ps))
+kind_after_known : (kind : Option SessionType) (ps : List Pair) → (is_none kind ≡ true → IsSome (session_type_of ps))
     → IsSome (kind_after kind ps)
 kind_after_known None ps h = h refl
 kind_after_known (Some k) ps h = search rules
@@ -68,7 +68,7 @@ pub known : (s : Progress) (f : LoginFlags) (text : List ℕ) → stop_of s f (s
 unfolding stop_of after
 known s f text none whole =
     let t : List ℕ = s.unfinished ++ text in
-    let first : is_none s.kind ≡ true → IsSome (kind_of (pairs t)) = λ n.
+    let first : is_none s.kind ≡ true → IsSome (session_type_of (pairs t)) = λ n.
     let r : rules_for s f ≡ flags_rule ∷ checks_of_first =
     ap (λ (b : Bool). if b then rules_of_part else flags_rule
     ∷ (if is_none s.kind then checks_of_first else checks_of_later)) whole

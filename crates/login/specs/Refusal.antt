@@ -79,8 +79,8 @@ kind_said (Some value) =
     if bytes_eq value (codes "Normal") then Some Normal
     else (if bytes_eq value (codes "Discovery") then Some Discovery else None)
 
-abbrev pub kind_of : List Pair → Option SessionType
-kind_of ps = kind_said (value_said Of.SessionType ps)
+abbrev pub session_type_of : List Pair → Option SessionType
+session_type_of ps = kind_said (value_said Of.SessionType ps)
 
 abbrev pub needs_target : Option SessionType → Bool
 needs_target (Some Normal) = true
@@ -119,11 +119,11 @@ abbrev pub initiator_rule : Rule
 initiator_rule s f text = when (is_none (value_said Of.InitiatorName (pairs text))) (Refused MissingParameter)
 
 abbrev pub kind_rule : Rule
-kind_rule s f text = when (is_none (kind_of (pairs text))) (Refused SessionTypeNotSupported)
+kind_rule s f text = when (is_none (session_type_of (pairs text))) (Refused SessionTypeNotSupported)
 
 abbrev pub target_rule : Rule
 target_rule s f text =
-    when (needs_target (kind_of (pairs text)) && is_none (value_said Of.TargetName (pairs text)))
+    when (needs_target (session_type_of (pairs text)) && is_none (value_said Of.TargetName (pairs text)))
     (Refused MissingParameter)
 
 abbrev pub other_target_rule : Rule

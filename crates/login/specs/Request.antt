@@ -5,7 +5,7 @@ use Rattle.login.specs.Text.{Pair, pairs, spelled}
 use Rattle.login.specs.Answer.{answers}
 use Rattle.login.specs.Table.{own_data_segment}
 use Rattle.login.specs.Progress.{Progress}
-use Rattle.login.specs.Refusal.{stop_of, kind_of, value_said}
+use Rattle.login.specs.Refusal.{stop_of, session_type_of, value_said}
 use Rattle.login.specs.declared.key.Key.TheVariants as Of
 use Rattle.login.specs.declared.status.LoginFlags.{LoginFlags}
 use Rattle.login.specs.declared.status.SessionType.{SessionType}
@@ -28,7 +28,7 @@ next_stage f = if f.transit then f.next_stage else f.current_stage
 -- the session type, as the first request said it
 abbrev pub kind_after : Option SessionType → List Pair → Option SessionType
 kind_after (Some kind) ps = Some kind
-kind_after None ps = kind_of ps
+kind_after None ps = session_type_of ps
 
 -- TargetPortalGroupTag, in the response of a normal session to its first request
 abbrev pub group_text : ℕ → Option SessionType → Option SessionType → List ℕ

@@ -2,7 +2,7 @@
 ghost use Rattle.std.specs.Prelude.{◌≡◌, count_by, option_map};
 ghost use Rattle.login.specs.Text.{is_byte, pairs};
 ghost use Rattle.login.specs.Refusal.{is_stage, may_go, has_wrong_flags, is_too_long, has_repeated, stands_from_first};
-ghost use Rattle.login.specs.Refusal.{has_bad_length, has_bad_name, kind_of, is_other, wants_authentication, value_said};
+ghost use Rattle.login.specs.Refusal.{has_bad_length, has_bad_name, session_type_of, is_other, wants_authentication, value_said};
 ghost use Rattle.login.specs.Table.{key_named};
 
 use crate::key::Key;
@@ -104,8 +104,8 @@ fn has_bad_length(least: usize, name: Option<&[u8]>) -> bool
 }
 
 /// The session type that a text asks for: Normal where it says none. None where its value is neither.
-pub fn kind_of(text: &[u8]) -> Option<SessionType>
-    ensures { result ≡ kind_of (pairs text.now) }
+pub fn session_type_of(text: &[u8]) -> Option<SessionType>
+    ensures { result ≡ session_type_of (pairs text.now) }
 {
     match found(text, b"SessionType") {
         None => Some(SessionType::Normal),

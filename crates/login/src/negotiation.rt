@@ -8,8 +8,8 @@ ghost use Rattle.login.specs.Progress.{Progress, beginning};
 
 use crate::answer::{put_answers, put_bytes, put_number};
 use crate::checks::{
-    MOST_BYTES, has_bad_name, has_repeated, has_wrong_flags, is_too_long, kind_of, names_other,
-    wants_authentication,
+    MOST_BYTES, has_bad_name, has_repeated, has_wrong_flags, is_too_long, names_other,
+    session_type_of, wants_authentication,
 };
 use crate::key::DATA_SEGMENT_LENGTH;
 use crate::parameters::Parameters;
@@ -220,7 +220,7 @@ impl Negotiation {
         if found(whole, b"InitiatorName").is_none() {
             return refused(LoginStatus::MissingParameter);
         }
-        let kind = kind_of(whole);
+        let kind = session_type_of(whole);
         if kind.is_none() {
             return refused(LoginStatus::SessionTypeNotSupported);
         }
@@ -309,7 +309,7 @@ impl Negotiation {
             ≡ out.old.items ++ group_text self.now.tag self.now.kind (kind_after self.now.kind (pairs whole.now)) }
         ensures kept { vec_capacity out.old ≤ vec_capacity out.new }
     {
-        if self.kind.is_none() && kind_of(whole) == Some(SessionType::Normal) {
+        if self.kind.is_none() && session_type_of(whole) == Some(SessionType::Normal) {
             put_number(out, b"TargetPortalGroupTag", self.tag as u32);
         }
     }
@@ -347,7 +347,7 @@ fn kind_after(kind: Option<SessionType>, text: &[u8]) -> Option<SessionType>
 {
     match kind {
         Some(kind) => Some(kind),
-        None => kind_of(text),
+        None => session_type_of(text),
     }
 }
 

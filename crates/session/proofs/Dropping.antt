@@ -5,7 +5,7 @@ use Rattle.std.proofs.Math.Bool.{and-false, and-true}
 use Rattle.std.proofs.lemmas.{Bool.eqb-true, Slice.Eq.bytes_eq-Decides}
 use Rattle.session_rules.specs.Words.{nat_lt, bytes_eq, slice_index, is_some, filter, NamesUnit, ManagementHeader, Numbers}
 use Rattle.scsi_types.specs.Lun.{IsLunOf}
-use Rattle.session_rules.specs.{declared.task_function.Management.Management, Drops.drops, Drops.names_one_of}
+use Rattle.session_rules.specs.{declared.task_function.ManagementOutcome.ManagementOutcome, Drops.drops, Drops.names_one_of}
 use Rattle.session_rules.specs.Tasks.{Collecting, r2ts_of}
 use Rattle.session_rules.specs.TaskManagement.{there, kept_by, IsManagement, management_answer}
 
@@ -59,7 +59,7 @@ kept_so x None (c ∷ cs) = rw (and-false, kept_so x None cs) refl
 kept_so x (Some unit) cs = simp and-true
 
 -- those that wait behind a request are those that it does not drop
-pub kept_is : (units : ℕ) (cs : List Collecting) (x : ManagementHeader) (m : Management) (kept : List Collecting)
+pub kept_is : (units : ℕ) (cs : List Collecting) (x : ManagementHeader) (m : ManagementOutcome) (kept : List Collecting)
     → IsManagement units cs x m kept → filter (keeps units x) cs ≡ kept
 kept_is units cs x m kept k =
     ap (λ (b : Bool). filter (λ c. not (drops x c.command && b)) cs) (found_is units x.lun k.unit k.names)

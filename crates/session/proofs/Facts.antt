@@ -15,7 +15,7 @@ use Rattle.session_full_feature.specs.Machine.{Waits, OnOpened, calls, sends_fir
 use Rattle.session_full_feature.specs.Machine.{OnTaken, OnFullPdu, OnUnaccepted, OnIncoming, OnManagedBy}
 use Rattle.session.proofs.RequestFacts.{OutFacts, TaskFacts, TurnFacts, silent, one_out, nobody, commands_of, moved, some_or_none}
 use Rattle.session.proofs.RequestFacts.{one_facts, management_facts, no_command}
-use Rattle.session_rules.specs.declared.task_function.Management.{Management, TheVariants.Respond, TheVariants.Reset}
+use Rattle.session_rules.specs.declared.task_function.ManagementOutcome.{ManagementOutcome, TheVariants.Respond, TheVariants.Reset}
 use Rattle.session_rules.specs.TaskManagement.{IsManagement, management_answer, reset_response}
 use Rattle.session_full_feature.proofs.{Turns.ran}
 use Rattle.session.proofs.{Right.none_at}
@@ -288,7 +288,7 @@ module _ (b : List ℕ) (s mid s' : Counters) (step : Step) (call : Option Askin
       by_target_facts s (front ++ back) true _ Accepted call this.command asked means
       (data_turn s b x d call this (rw r.1.call_is tt) judged found) refl r.0 _ _ _ outs s' r.1
 
-  managed_by : (m : Management) (kept : List Collecting) (p : ManagementHeader) (d : List ℕ)
+  managed_by : (m : ManagementOutcome) (kept : List Collecting) (p : ManagementHeader) (d : List ℕ)
       → IsManagement s.setting.units s.standing.collecting p m kept
       → OnManagedBy m (after_collecting kept (after_number p.immediate s)) p step mid
       → Facts Accepted (Initiator (TaskManagementRequest p)) d

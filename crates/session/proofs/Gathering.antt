@@ -14,7 +14,7 @@ use Rattle.session_rules.specs.declared.verdict.Verdict.{Verdict}
 use Rattle.session_rules.specs.declared.verdict.Verdict.TheVariants.{Accepted, Full, Ignored, Gap, Refused}
 use Rattle.session_rules.specs.declared.verdict.TheConstants.{RESERVED_TAG}
 use Rattle.session_rules.specs.declared.end.End.{End}
-use Rattle.session_rules.specs.declared.task_function.Management.{Management, TheVariants.Respond, TheVariants.Reset}
+use Rattle.session_rules.specs.declared.task_function.ManagementOutcome.{ManagementOutcome, TheVariants.Respond, TheVariants.Reset}
 use Rattle.session_rules.specs.Tasks.{r2ts_of, touches, has_tag, ends, Task, Collecting, accepted_command, begun_by, tasks}
 use Rattle.session_rules.specs.Verdict.{IsJudged, IsJudgedPdu, verdict_of, most_immediate}
 use Rattle.session_rules.proofs.Tasks.{with_turn, no_more, extended, tasks_more, not_full}
@@ -126,7 +126,7 @@ module _ (b : List ℕ) (step : Step) (s mid s' : Counters) (call : Option Askin
   stayed said end next k =
       stays b step s mid s' call outs runs said end k.step_is ∙ ap (λ (z : Counters). z.standing.collecting) k.next_is
 
-  managed_keeps : (x : ManagementHeader) (m : Management) (n : Counters) → OnManagedBy m n x step mid
+  managed_keeps : (x : ManagementHeader) (m : ManagementOutcome) (n : Counters) → OnManagedBy m n x step mid
       → (r2ts_of outs ≡ []) × (s'.standing.collecting ≡ n.standing.collecting)
   managed_keeps x (Respond code) n k =
       let r = ran b step _ mid call outs s' k.step_is runs in

@@ -8,7 +8,7 @@ use Rattle.session_full_feature.specs.Machine.{OnManagedBy, OnTaken, OnFullPdu, 
 use Rattle.session_stream.specs.{declared.pdus.Pdus.Pdus, Outbox.OutboxValue, Outbox.IsQueued, Pdus.sent_by}
 use Rattle.session_rules.specs.{Asking.Asking, Causes.end_by_reject, Verdict.IsJudged, Legal.end_after, Legal.end_of_call, Legal.bhs_of}
 use Rattle.session_rules.specs.declared.end.End.{End}
-use Rattle.session_rules.specs.declared.task_function.Management.{Management, TheVariants.Respond, TheVariants.Reset}
+use Rattle.session_rules.specs.declared.task_function.ManagementOutcome.{ManagementOutcome, TheVariants.Respond, TheVariants.Reset}
 use Rattle.session_rules.specs.declared.verdict.Verdict.{Verdict}
 use Rattle.session_rules.specs.declared.verdict.Verdict.TheVariants.{Accepted, Full, Refused}
 use Rattle.session_rules.specs.Turn.{Incoming, pdu, Out, bytes_of, IsLed}
@@ -59,7 +59,7 @@ module _ (b : List ℕ) (s mid s' : Counters) (call : Option Asking) (sent : Lis
     fed_ends front this back asked d end (sends_next_r2t all short next e k) = plain step _ e refl runs
     fed_ends front this back asked d end (calls_now h k next) = plain step _ k.step_is refl runs
 
-    managed_ends : (m : Management) (c : Counters) (p : _) → OnManagedBy m c p step mid
+    managed_ends : (m : ManagementOutcome) (c : Counters) (p : _) → OnManagedBy m c p step mid
         → end_with b step call ≡ end_of_call call
     managed_ends (Respond response) c p k = plain step _ k.step_is refl runs
     managed_ends (Reset unit) c p k = plain step _ k.step_is refl runs

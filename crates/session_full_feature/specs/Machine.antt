@@ -10,7 +10,7 @@ use Rattle.session_rules.specs.{Legal.end_by, Legal.end_by_reset, Logout.closes,
 use Rattle.session_rules.specs.declared.end.End.{End, TheVariants.LoggedOut}
 use Rattle.session_rules.specs.declared.end.End.TheVariants as ends
 use Rattle.session_rules.specs.declared.target.{TargetAnswer.TargetAnswer, ResetAnswer.ResetAnswer}
-use Rattle.session_rules.specs.declared.task_function.Management.{Management, TheVariants.Respond, TheVariants.Reset}
+use Rattle.session_rules.specs.declared.task_function.ManagementOutcome.{ManagementOutcome, TheVariants.Respond, TheVariants.Reset}
 use Rattle.session_rules.specs.declared.verdict.Verdict.{Verdict}
 use Rattle.session_rules.specs.declared.verdict.Verdict.TheVariants.{Accepted, Full, Ignored, Gap, Refused}
 use Rattle.session_rules.specs.TaskManagement.{IsManagement, reset_response, management_answer}
@@ -135,12 +135,12 @@ pub record OnFull (s : Counters) (p : CommandHeader) (step : Step) (s' : Counter
   pub sends : Sends s (reply_with s p (need_of asked) [] task_set_full) step s'
 
 -- a response, or a unit that is to be reset
-abbrev pub OnManagedBy : Management → Counters → ManagementHeader → Step → Counters → Type 0
+abbrev pub OnManagedBy : ManagementOutcome → Counters → ManagementHeader → Step → Counters → Type 0
 OnManagedBy (Respond response) s p step s' = Answers s (management_answer (next_numbers s) p (Some response)) None step s'
 OnManagedBy (Reset unit) s p step s' = Makes (resets p unit) s step s'
 
 pub record OnManagement (s : Counters) (p : ManagementHeader) (step : Step) (s' : Counters) : Type 0 where
-  pub management : Management
+  pub management : ManagementOutcome
   pub kept : List Collecting
   pub comes_to : IsManagement s.setting.units s.standing.collecting p management kept
   pub managed : OnManagedBy management (after_collecting kept (after_number p.immediate s)) p step s'

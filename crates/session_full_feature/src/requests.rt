@@ -16,7 +16,7 @@ use crate::text::{MadeText, is_part, text_response};
 use iscsi_pdu::{
     Header, InitiatorHeader, LogoutRequest, NopOut, TaskManagementRequest, TextRequest,
 };
-use session_rules::{End, Management, ResetAnswer};
+use session_rules::{End, ManagementOutcome, ResetAnswer};
 
 impl Session {
     /// What a NOP-Out calls for.
@@ -102,10 +102,13 @@ impl Session {
     {
         self.accept(request.immediate);
         match self.drop_tasks(&request) {
-            Management::Respond(response) => {
+            ManagementOutcome::Respond(response) => {
                 Actions::Send(self.respond_to_management(&request, Some(response), None))
             }
-            Management::Reset(unit) => Actions::Call(Call::Reset(ResetCall { request, unit })),
+            ManagementOutcome::Reset(unit) => Actions::Call(Call::Reset(ResetCall {
+                request,
+                unit,
+            })),
         }
     }
 

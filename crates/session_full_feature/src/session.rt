@@ -31,9 +31,9 @@ use iscsi_pdu::{
 use login::{SessionType, TextAnswer, answer_within, target_text};
 use scsi_types::{Asked, Lun, NoMemory, Status, decode, need};
 use session_rules::{
-    COMMAND_NOT_SUPPORTED, End, Identity, LONGEST_TEXT, Lengths, Management, PROTOCOL_ERROR, Start,
-    TargetAnswer, Verdict, WINDOW, Window, next_exp_cmd_sn, next_transfer_tag, reject_reason,
-    target_numbers,
+    COMMAND_NOT_SUPPORTED, End, Identity, LONGEST_TEXT, Lengths, ManagementOutcome, PROTOCOL_ERROR,
+    Start, TargetAnswer, Verdict, WINDOW, Window, next_exp_cmd_sn, next_transfer_tag,
+    reject_reason, target_numbers,
 };
 use session_stream::{DataIns, Pdus, ResponsePdu, count};
 use session_tasks::{
@@ -209,7 +209,7 @@ impl Session {
     }
 
     /// What a request for task management comes to. The commands that it drops wait for their data no more.
-    pub(crate) fn drop_tasks(&mut self, request: &TaskManagementRequest) -> Management
+    pub(crate) fn drop_tasks(&mut self, request: &TaskManagementRequest) -> ManagementOutcome
         ensures { (kept : List Collecting)
             × IsManagement self.old.setting.units self.old.standing.collecting request.now result kept
             × (self.new ≡ after_collecting kept self.old) }

@@ -2,7 +2,7 @@
 use Rattle.std.specs.Prelude.{◌≡◌, if◌then◌else◌, ◌∷◌}
 use Rattle.session_rules.specs.Words.{ℕ, not, nat_lt, Bool, List, [], Option, Some, None, list_any, filter, NamesUnit, ManagementHeader}
 use Rattle.session_rules.specs.Words.{Numbers, TaskManagementResponse, ResetAnswer, TaskFunction, AbortTask, AbortTaskSet, LogicalUnitReset}
-use Rattle.session_rules.specs.Words.{TaskReassign, Unserved, Management, Respond, Reset}
+use Rattle.session_rules.specs.Words.{TaskReassign, Unserved, ManagementOutcome, Respond, Reset}
 use Rattle.session_rules.specs.{Turn.Out, Asking.Asking, Asking.reset, Tasks.Collecting, Drops.function_of, Drops.drops}
 use Rattle.session_rules.specs.declared.target.ResetAnswer.TheVariants.{Done, Gone, Failed}
 use Rattle.session_rules.specs.Codes.{function_complete, task_does_not_exist, lun_does_not_exist, reassignment_not_supported}
@@ -23,7 +23,7 @@ kept_by None x cs = cs
 kept_by (Some unit) x cs = filter (λ c. not (drops x c.command)) cs
 
 -- what a function comes to, on the unit of its LUN where that is there: a response, or a reset of the unit
-abbrev pub management_of : TaskFunction → Bool → Option ℕ → Management
+abbrev pub management_of : TaskFunction → Bool → Option ℕ → ManagementOutcome
 management_of AbortTask dropped None = Respond lun_does_not_exist
 management_of AbortTask dropped (Some unit) = Respond (if dropped then function_complete else task_does_not_exist)
 management_of AbortTaskSet dropped None = Respond lun_does_not_exist
@@ -34,7 +34,7 @@ management_of TaskReassign dropped unit = Respond reassignment_not_supported
 management_of Unserved dropped unit = Respond function_not_supported
 
 -- what a request comes to, where there are so many units and these commands wait, and which of them wait behind it
-pub record IsManagement (units : ℕ) (cs : List Collecting) (p : ManagementHeader) (m : Management)
+pub record IsManagement (units : ℕ) (cs : List Collecting) (p : ManagementHeader) (m : ManagementOutcome)
     (kept : List Collecting) : Type 0 where
   pub unit : Option ℕ
   pub names : NamesUnit p.lun unit
@@ -48,7 +48,7 @@ reset_response Gone = None
 reset_response Failed = Some function_rejected
 
 -- the target is asked for a reset just where the request comes to one, and this is the response
-abbrev pub IsManagedBy : Management → Option Asking → Option ℕ → Type 0
+abbrev pub IsManagedBy : ManagementOutcome → Option Asking → Option ℕ → Type 0
 IsManagedBy (Respond code) call response = (call ≡ None) × (response ≡ Some code)
 IsManagedBy (Reset unit) call response =
     (answer : ResetAnswer) × (call ≡ Some (reset unit answer)) × (response ≡ reset_response answer)
@@ -56,7 +56,7 @@ IsManagedBy (Reset unit) call response =
 pub record IsManaged (units : ℕ) (cs : List Collecting) (p : ManagementHeader) (call : Option Asking)
     (response : Option ℕ)
     (kept : List Collecting) : Type 0 where
-  pub management : Management
+  pub management : ManagementOutcome
   pub comes_to : IsManagement units cs p management kept
   pub managed : IsManagedBy management call response
 

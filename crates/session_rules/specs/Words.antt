@@ -28,11 +28,11 @@ pub use Rattle.scsi_types.specs.declared.{command.Command.Command, command.CdbFa
 pub use Rattle.session_rules.specs.declared.{end.End.End, identity.Identity.Identity, lengths.Lengths.Lengths, opening.Opening.Opening}
 pub use Rattle.session_rules.specs.declared.{start.Start.Start, verdict.Verdict.Verdict, login_outcome.LoginOutcome.LoginOutcome}
 pub use Rattle.session_rules.specs.declared.target.{TargetAnswer.TargetAnswer, BeginAnswer.BeginAnswer, ResetAnswer.ResetAnswer}
-pub use Rattle.session_rules.specs.declared.task_function.{Management.Management, TaskFunction.TaskFunction}
+pub use Rattle.session_rules.specs.declared.task_function.{ManagementOutcome.ManagementOutcome, TaskFunction.TaskFunction}
 pub use Rattle.session_rules.specs.declared.end.End.TheVariants.{EndOfInput, InputFailed, OutputFailed, Reinstated, LoggedOut}
 pub use Rattle.session_rules.specs.declared.opening.Opening.TheVariants.{Login, FullFeature}
 pub use Rattle.session_rules.specs.declared.target.TargetAnswer.TheVariants.{Replied, Outside, Busy, Gone}
-pub use Rattle.session_rules.specs.declared.task_function.Management.TheVariants.{Respond, Reset}
+pub use Rattle.session_rules.specs.declared.task_function.ManagementOutcome.TheVariants.{Respond, Reset}
 pub use Rattle.session_rules.specs.declared.task_function.TaskFunction.TheVariants.{AbortTask, AbortTaskSet, LogicalUnitReset}
 pub use Rattle.session_rules.specs.declared.task_function.TaskFunction.TheVariants.{TaskReassign, Unserved}
 pub use Rattle.session_rules.specs.declared.verdict.Verdict.TheVariants.{Accepted, Ignored, Refused, Full, Gap}

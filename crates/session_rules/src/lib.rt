@@ -37,7 +37,7 @@ pub use login_outcome::LoginOutcome;
 pub use opening::Opening;
 pub use start::Start;
 pub use target::{BeginAnswer, ResetAnswer, Target, TargetAnswer};
-pub use task_function::{Management, TaskFunction};
+pub use task_function::{ManagementOutcome, TaskFunction};
 pub use text::LONGEST_TEXT;
 pub use verdict::{
     COMMAND_NOT_SUPPORTED, INVALID_PDU_FIELD, PROTOCOL_ERROR, RESERVED_TAG, Verdict, reject_reason,

@@ -30,7 +30,7 @@ impl TaskFunction {
 
 /// What a request comes to. Which commands that wait it drops is said in `specs/Drops`.
 #[derive(Clone, Copy)]
-pub enum Management {
+pub enum ManagementOutcome {
     /// This response code (11.6.1).
     Respond(u8),
     /// A reset of this unit, which is there.

@@ -6,7 +6,7 @@ ghost use Rattle.session_rules.specs.TaskManagement.{there, management_of, IsMan
 use crate::collecting::WaitingCommands;
 use iscsi_pdu::{ScsiCommand, TaskManagementRequest};
 use scsi_types::Lun;
-use session_rules::{Management, TaskFunction};
+use session_rules::{ManagementOutcome, TaskFunction};
 
 /// Responses (RFC 7143, 11.6.1).
 pub const FUNCTION_COMPLETE: u8 = 0;
@@ -26,7 +26,7 @@ pub fn management_for(
     request: &TaskManagementRequest,
     units: u16,
     waiting: &mut WaitingCommands,
-) -> Management
+) -> ManagementOutcome
     ensures { IsManagement units waiting.old request.now result waiting.new }
 {
     let unit = there(units, Lun::parse(&request.lun));
@@ -68,22 +68,22 @@ fn there(units: u16, unit: Option<u8>) -> Option<u8>
 }
 
 // What a function comes to on a unit, where that is there.
-fn managed(function: TaskFunction, dropped: bool, unit: Option<u8>) -> Management
+fn managed(function: TaskFunction, dropped: bool, unit: Option<u8>) -> ManagementOutcome
     ensures { result ≡ management_of function dropped unit }
 {
     match (function, unit) {
-        (TaskFunction::TaskReassign, _) => Management::Respond(REASSIGNMENT_NOT_SUPPORTED),
-        (TaskFunction::Unserved, _) => Management::Respond(FUNCTION_NOT_SUPPORTED),
+        (TaskFunction::TaskReassign, _) => ManagementOutcome::Respond(REASSIGNMENT_NOT_SUPPORTED),
+        (TaskFunction::Unserved, _) => ManagementOutcome::Respond(FUNCTION_NOT_SUPPORTED),
         (
             TaskFunction::AbortTask | TaskFunction::AbortTaskSet | TaskFunction::LogicalUnitReset,
             None,
-        ) => Management::Respond(LUN_DOES_NOT_EXIST),
-        (TaskFunction::AbortTask, Some(_)) => Management::Respond(if dropped {
+        ) => ManagementOutcome::Respond(LUN_DOES_NOT_EXIST),
+        (TaskFunction::AbortTask, Some(_)) => ManagementOutcome::Respond(if dropped {
             FUNCTION_COMPLETE
         } else {
             TASK_DOES_NOT_EXIST
         }),
-        (TaskFunction::AbortTaskSet, Some(_)) => Management::Respond(FUNCTION_COMPLETE),
-        (TaskFunction::LogicalUnitReset, Some(unit)) => Management::Reset(unit),
+        (TaskFunction::AbortTaskSet, Some(_)) => ManagementOutcome::Respond(FUNCTION_COMPLETE),
+        (TaskFunction::LogicalUnitReset, Some(unit)) => ManagementOutcome::Reset(unit),
     }
 }

@@ -13,8 +13,8 @@ use Rattle.std.proofs.lemmas.List.Filters.{length-filter_both}
 use Rattle.scsi_types.specs.Nexus.{Nexus}
 use Rattle.unit_control.specs.declared.sessions.Attached.{Attached}
 use Rattle.reservations.specs.Notice.{Told}
-use Rattle.unit_control.specs.Sessions.{IsFit, is_of, nexus_in, nexus_of, sender_of, session_of, changed, ended}
-use Rattle.unit_control.specs.Sessions.{heard_reset, all_reset, without}
+use Rattle.unit_control.specs.Sessions.{HasCountedSerial, is_of, nexus_in, nexus_of, sender_of, session_of, changed, ended}
+use Rattle.unit_control.specs.Sessions.{reset_established, all_reset, without}
 use Rattle.unit_control.proofs.GroupsLaws.{change_keeps}
 use Rattle.unit_control.specs.Groups.{change_heard, hear_change}
 use Rattle.unit_control.specs.Reserve.{all_heard, hear}
@@ -180,53 +180,53 @@ fewer nexus sessions = omega
     (arith, length-filter_both (λ a. not (is_of nexus a)) (λ a. not (not (is_of nexus a))) (λ a. refl) sessions)
 
 -- no serial passes the count
-fit_later : (count : ℕ) (a : Attached) → IsFit count a → IsFit (count + 1) a
+fit_later : (count : ℕ) (a : Attached) → HasCountedSerial count a → HasCountedSerial (count + 1) a
 fit_later count a h = omega (arith, h)
 
 pub serials_fit : (nexus : Nexus) (sessions : List Attached) (count : ℕ) (new : Attached) → new.next ≡ 1
-    → All (IsFit count) sessions → All (IsFit (count + 1)) (without nexus sessions ++ new ∷ [])
+    → All (HasCountedSerial count) sessions → All (HasCountedSerial (count + 1)) (without nexus sessions ++ new ∷ [])
 serials_fit nexus sessions count new first fit =
-    All-push (IsFit (count + 1)) (without nexus sessions) new
-    (All-filter (λ a. not (is_of nexus a)) (IsFit (count + 1)) sessions
+    All-push (HasCountedSerial (count + 1)) (without nexus sessions) new
+    (All-filter (λ a. not (is_of nexus a)) (HasCountedSerial (count + 1)) sessions
     (λ k d lt. fit_later count (get_or sessions k d) (fit k d lt)))
     (omega (arith, first))
 
-pub serials_fit_ended : (id : ℕ) (sessions : List Attached) (count : ℕ) → All (IsFit count) sessions
-    → All (IsFit (count + 1)) (ended sessions id)
+pub serials_fit_ended : (id : ℕ) (sessions : List Attached) (count : ℕ) → All (HasCountedSerial count) sessions
+    → All (HasCountedSerial (count + 1)) (ended sessions id)
 serials_fit_ended id sessions count fit =
-    All-filter (λ a. not (nat_eq a.id id)) (IsFit (count + 1)) sessions
+    All-filter (λ a. not (nat_eq a.id id)) (HasCountedSerial (count + 1)) sessions
     (λ k d lt. fit_later count (get_or sessions k d) (fit k d lt))
 
-reset_keeps_fit : (id count : ℕ) (a : Attached) → IsFit count a → IsFit (count + 1) (heard_reset id a)
+reset_keeps_fit : (id count : ℕ) (a : Attached) → HasCountedSerial count a → HasCountedSerial (count + 1) (reset_established id a)
 reset_keeps_fit id count a h =
     let later = fit_later count a h in
     ⊎_elim (λ (t : (nat_eq a.id id ≡ true) × (a.id ≡ id)). rw t.0 later)
     (λ (n : (nat_eq a.id id ≡ false) × (a.id ≢ id)). rw n.0 later)
     (eqb_tells a.id id)
 
-pub serials_fit_heard : (told : List Told) (sessions : List Attached) (count : ℕ) → All (IsFit count) sessions
-    → All (IsFit count) (all_heard told sessions)
+pub serials_fit_heard : (told : List Told) (sessions : List Attached) (count : ℕ) → All (HasCountedSerial count) sessions
+    → All (HasCountedSerial count) (all_heard told sessions)
 serials_fit_heard told sessions count fit =
-    All-map (IsFit count) (hear told) sessions (λ k d lt. fit k d lt)
+    All-map (HasCountedSerial count) (hear told) sessions (λ k d lt. fit k d lt)
 
-change_keeps_fit : (by_session : Option ℕ) (count : ℕ) (a : Attached) → IsFit count a
-    → IsFit count (hear_change by_session a)
+change_keeps_fit : (by_session : Option ℕ) (count : ℕ) (a : Attached) → HasCountedSerial count a
+    → HasCountedSerial count (hear_change by_session a)
 change_keeps_fit None count a h = h
 change_keeps_fit (Some id) count a h =
     ⊎_elim (λ (t : (nat_eq a.id id ≡ true) × (a.id ≡ id)). rw t.0 h)
     (λ (n : (nat_eq a.id id ≡ false) × (a.id ≢ id)). rw n.0 h)
     (eqb_tells a.id id)
 
-pub serials_fit_changed : (by_session : Option ℕ) (sessions : List Attached) (count : ℕ) → All (IsFit count) sessions
-    → All (IsFit count) (map (hear_change by_session) sessions)
+pub serials_fit_changed : (by_session : Option ℕ) (sessions : List Attached) (count : ℕ) → All (HasCountedSerial count) sessions
+    → All (HasCountedSerial count) (map (hear_change by_session) sessions)
 serials_fit_changed by_session sessions count fit =
-    All-map (IsFit count) (hear_change by_session) sessions
+    All-map (HasCountedSerial count) (hear_change by_session) sessions
     (λ k d lt. change_keeps_fit by_session count (get_or sessions k d) (fit k d lt))
 
-pub serials_fit_reset : (id : ℕ) (sessions : List Attached) (count : ℕ) → All (IsFit count) sessions
-    → All (IsFit (count + 1)) (all_reset sessions id)
+pub serials_fit_reset : (id : ℕ) (sessions : List Attached) (count : ℕ) → All (HasCountedSerial count) sessions
+    → All (HasCountedSerial (count + 1)) (all_reset sessions id)
 serials_fit_reset id sessions count fit =
-    All-map (IsFit (count + 1)) (heard_reset id) sessions
+    All-map (HasCountedSerial (count + 1)) (reset_established id) sessions
     (λ k d lt. reset_keeps_fit id count (get_or sessions k d) (fit k d lt))
 
 -- ---- a change of all, one by one

@@ -54,8 +54,8 @@ last_nexus (a ∷ []) = nexus_of a
 last_nexus (a ∷ b ∷ rest) = last_nexus (b ∷ rest)
 
 -- its next serial is at most the count of entries
-abbrev pub IsFit : ℕ → Attached → Type 0
-IsFit count a = a.next ≤ count
+abbrev pub HasCountedSerial : ℕ → Attached → Type 0
+HasCountedSerial count a = a.next ≤ count
 
 -- ---- one session changes
 
@@ -71,11 +71,11 @@ abbrev pub command_counted : List Attached → ℕ → List Attached
 command_counted sessions id = changed one_command_more sessions id
 
 -- it was told its first condition, which is pending no more
-abbrev pub tell_one : Attached → Attached
-tell_one a = record a { pending = drop 1 a.pending }
+abbrev pub report_first : Attached → Attached
+report_first a = record a { pending = drop 1 a.pending }
 
 abbrev pub told : List Attached → ℕ → List Attached
-told sessions id = changed tell_one sessions id
+told sessions id = changed report_first sessions id
 
 -- ---- all sessions change
 
@@ -85,11 +85,11 @@ ended sessions id = filter (λ a. not (nat_eq a.id id)) sessions
 
 -- The unit was reset by the session of this id: every other one is to be told so, and of nothing before it. The condition is that of a
 -- power on, 29/00, which covers a reset too.
-abbrev pub heard_reset : ℕ → Attached → Attached
-heard_reset id a = if nat_eq a.id id then a else record a { pending = PowerOn ∷ [] }
+abbrev pub reset_established : ℕ → Attached → Attached
+reset_established id a = if nat_eq a.id id then a else record a { pending = PowerOn ∷ [] }
 
 abbrev pub all_reset : List Attached → ℕ → List Attached
-all_reset sessions id = map (heard_reset id) sessions
+all_reset sessions id = map (reset_established id) sessions
 
 -- ---- the session of a nexus
 

@@ -79,7 +79,7 @@ impl Drop for Control {
 impl Model for Control {
     ghost use Rattle.std.specs.Prelude.{All, ◌≤◌, vec_capacity};
     ghost use Rattle.unit_control.specs.Saving.{is_doubtful, records_left};
-    ghost use Rattle.unit_control.specs.Sessions.{IsFit};
+    ghost use Rattle.unit_control.specs.Sessions.{HasCountedSerial};
     ghost use Rattle.unit_control.specs.State.{ControlValue};
 
     ghost Value = { ControlValue };
@@ -95,7 +95,7 @@ impl Model for Control {
       count = u.count;
     } };
 
-    ghost invariant = { λ u. All (IsFit u.count) u.sessions.items × (64 ≤ vec_capacity u.sessions) };
+    ghost invariant = { λ u. All (HasCountedSerial u.count) u.sessions.items × (64 ≤ vec_capacity u.sessions) };
 }
 
 impl Control {

@@ -3,8 +3,8 @@ ghost use Rattle.std.specs.Prelude.{◌≡◌, ◌<◌, ◌++◌, ◌-◌, ◌^�
 ghost use Rattle.std.specs.Prelude.{MatchOption};
 ghost use Rattle.std.specs.Prelude.{vec_capacity};
 ghost use Rattle.unit_control.specs.Places.{IsChangedAt, IsPlaceOf};
-ghost use Rattle.unit_control.specs.Sessions.{all_reset, ended, heard_reset, is_of, nexus_of, one_command_more};
-ghost use Rattle.unit_control.specs.Sessions.{session_of, tell_one, without};
+ghost use Rattle.unit_control.specs.Sessions.{all_reset, ended, reset_established, is_of, nexus_of, one_command_more};
+ghost use Rattle.unit_control.specs.Sessions.{session_of, report_first, without};
 ghost use Rattle.reservations.specs.Notice.{tellings};
 ghost use Rattle.unit_control.specs.Groups.{hear_change};
 ghost use Rattle.unit_control.specs.Reserve.{all_heard, hear};
@@ -62,7 +62,7 @@ pub fn count_command_at(sessions: &mut Vec<Attached>, at: usize)
 /// Tells the session at a place what it is to be told next.
 pub fn tell_at(sessions: &mut Vec<Attached>, at: usize)
     requires { at < length sessions.old.items }
-    ensures told { IsChangedAt tell_one sessions.old.items at sessions.new.items }
+    ensures told { IsChangedAt report_first sessions.old.items at sessions.new.items }
     ensures capacity { vec_capacity sessions.new ≡ vec_capacity sessions.old }
 {
     let attached = &mut sessions[at];
@@ -88,7 +88,7 @@ pub fn reset(sessions: &mut Vec<Attached>, by: SessionId)
 }
 
 fn hear_reset(attached: &mut Attached, by: SessionId)
-    ensures { attached.new ≡ heard_reset by attached.old }
+    ensures { attached.new ≡ reset_established by attached.old }
 {
     if attached.id != by {
         attached.pending.replace_all(UnitAttention::PowerOn);

@@ -31,7 +31,7 @@ use Rattle.unit_state.specs.Serials.{IsNumbered, IsOpening, commands_of}
 use Rattle.unit_state.proofs.SerialLaws.{numbered}
 use Rattle.unit_state.specs.Step.{IsStep, entry_of}
 use Rattle.unit_entries.specs.Histories.{IsHistory, IsBehind, IsToldBehind, own, command}
-use Rattle.unit_entries.specs.Causes.{IsFull, IsGone, IsAbsent, IsMoveTold}
+use Rattle.unit_entries.specs.Causes.{IsFull, IsGone, IsUnattached, IsMoveTold}
 
 -- ---- whose entries they are
 
@@ -221,7 +221,7 @@ module _ {B R O : Type 0} (claims : Bool) (contents : B → List (List ℕ)) (fa
   pub detach_done : (old new : UnitValue B R O) (i : ℕ) → IsAttached old.control i
       → new.control ≡ control_after old.control (Detach i) → new.device ≡ old.device → new.opener ≡ old.opener
       → new.file ≡ old.file → (s : UnitState) (h : List Entry) → IsHistory claims s h → Is s h old
-      → IsHistory claims s (h ++ Detach i ∷ []) × Is s (h ++ Detach i ∷ []) new × IsAbsent s (h ++ Detach i ∷ []) i × (length h + 1 < 2 ^ 64)
+      → IsHistory claims s (h ++ Detach i ∷ []) × Is s (h ++ Detach i ∷ []) new × IsUnattached s (h ++ Detach i ∷ []) i × (length h + 1 < 2 ^ 64)
   detach_done old new i was control device opener file s h l a =
       let d = quiet s h old new (Detach i) l a was control device opener file refl refl in
       let end = state_after-snoc s h (Detach i) in (

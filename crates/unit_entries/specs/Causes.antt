@@ -24,12 +24,12 @@ abbrev pub IsFull : UnitState → List Entry → Nexus → Type 0
 IsFull s history nexus = HasRoom (state_after s history).control nexus → ⊥
 
 -- behind the history this session is not attached
-abbrev pub IsAbsent : UnitState → List Entry → ℕ → Type 0
-IsAbsent s history session = session_of (state_after s history).control.sessions session ≡ None
+abbrev pub IsUnattached : UnitState → List Entry → ℕ → Type 0
+IsUnattached s history session = session_of (state_after s history).control.sessions session ≡ None
 
 -- behind the history this session is not attached, or the history has its last length
 abbrev pub IsGone : UnitState → List Entry → ℕ → Type 0
-IsGone s history session = IsAbsent s history session ⊎ (last_length ≤ (state_after s history).control.count)
+IsGone s history session = IsUnattached s history session ⊎ (last_length ≤ (state_after s history).control.count)
 
 -- behind the history this group owns the unit
 abbrev pub IsOwner : UnitState → List Entry → Group → Type 0

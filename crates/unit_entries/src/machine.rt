@@ -64,7 +64,7 @@ impl<B: Blocks, F: Blocks, O: Opener<B>> Machine<Noted, Opened> for Unit<B, F, O
     ghost use Rattle.unit_entries.specs.Devices.{devices, HaveFlushed, HaveMoved, HaveWorked};
     ghost use Rattle.unit_entries.specs.Histories.{IsBehind, IsCommand, IsToldBehind};
     ghost use Rattle.unit_entries.specs.RowOf.{IsRegistryBehind};
-    ghost use Rattle.unit_entries.specs.Causes.{IsFull, IsGone, IsAbsent, IsOwner, WantsMemory, IsStay, IsMoveTold};
+    ghost use Rattle.unit_entries.specs.Causes.{IsFull, IsGone, IsUnattached, IsOwner, WantsMemory, IsStay, IsMoveTold};
 
     type Name = Arrival;
 
@@ -105,7 +105,7 @@ impl<B: Blocks, F: Blocks, O: Opener<B>> Machine<Noted, Opened> for Unit<B, F, O
 
     ghost gone = { IsGone };
 
-    ghost absent = { IsAbsent };
+    ghost absent = { IsUnattached };
 
     ghost owner = { IsOwner };
 

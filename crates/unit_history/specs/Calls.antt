@@ -19,7 +19,7 @@ use Rattle.unit_control.specs.Entry.{Entry, Attach, Detach, Reset, Move}
 use Rattle.unit_entries.specs.Devices.{Devices, claims_of, HaveFlushed, HaveMoved, HaveWorked}
 use Rattle.unit_entries.specs.Histories.{IsBehind, IsHistory, IsCommand, IsToldBehind, own}
 use Rattle.unit_entries.specs.RowOf.{IsRegistryBehind, row_behind}
-use Rattle.unit_entries.specs.Causes.{IsAbsent, IsFull, IsGone, IsMoveTold, IsOwner, IsStay, WantsMemory}
+use Rattle.unit_entries.specs.Causes.{IsUnattached, IsFull, IsGone, IsMoveTold, IsOwner, IsStay, WantsMemory}
 
 -- A session attached: its pass has seen a legal history that ends with its Attach, whose place is the session's number.
 abbrev pub HasAttached : Bool → UnitState → Nexus → Known Entry → Type 0
@@ -79,7 +79,7 @@ WasGone claims s before after =
 -- Detach of its session, and ends with its Detach, behind which it is not attached.
 abbrev pub HasRetired : Bool → UnitState → Known Entry → List Entry → Type 0
 HasRetired claims s before history =
-    IsEnded own (IsHistory claims s) before history (Detach before.session) × IsAbsent s history before.session
+    IsEnded own (IsHistory claims s) before history (Detach before.session) × IsUnattached s history before.session
 
 -- The unit moved: this is a legal history that ends with this Move, this is what changed, and this became of the devices.
 pub record HasMoved {B R O : Type 0} (d : Devices B R O) (s : UnitState) (list : List ℕ) (history : List Entry) (told : Change)

@@ -10,7 +10,7 @@ use Rattle.scsi_types.specs.declared.command.Command.{Command as ScsiCommand}
 use Rattle.scsi_types.specs.declared.command.CdbFault.{CdbFault}
 use Rattle.unit_control.specs.declared.sessions.Attached.{Attached}
 use Rattle.unit_control.specs.State.{ControlValue, UnitState}
-use Rattle.unit_control.specs.Sessions.{attached, ended, heard_reset, is_of, next_of, command_counted, without}
+use Rattle.unit_control.specs.Sessions.{attached, ended, reset_established, is_of, next_of, command_counted, without}
 use Rattle.unit_control.specs.Choice.{Choice}
 use Rattle.unit_control.specs.Groups.{move_by}
 use Rattle.unit_control.specs.Refusal.{Request, request, refusal}
@@ -240,7 +240,7 @@ same_slots past e old new quiet same slots =
     subst (λ (ps : List (ℕ × ℕ)). AreSlots (past ++ e ∷ []) ps) (sym same) (quiet_slots past e (serials old) quiet slots)
 
 reset_keeps : (session : ℕ) (a : Attached)
-    → ((heard_reset session a).id ≡ a.id) × ((heard_reset session a).next ≡ a.next)
+    → ((reset_established session a).id ≡ a.id) × ((reset_established session a).next ≡ a.next)
 reset_keeps session a =
     ⊎_elim
     (λ (t : (nat_eq a.id session ≡ true) × (a.id ≡ session)). rw t.0 (refl, refl))
@@ -295,7 +295,7 @@ number_step claims past s (Reset session) is k =
     let c = s.control in
     quiet_numbers past (Reset session) c (control_after c (Reset session)) (λ id. refl) refl
     (same_slots past (Reset session) c.sessions (control_after c (Reset session)).sessions (λ id. refl)
-    (serials_mapped (heard_reset session) (reset_keeps session) c.sessions) k.slots) k
+    (serials_mapped (reset_established session) (reset_keeps session) c.sessions) k.slots) k
 number_step claims past s (Move list choice) is k =
     let c = s.control in
     quiet_numbers past (Move list choice) c (control_after c (Move list choice)) (λ id. refl)

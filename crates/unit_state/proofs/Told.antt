@@ -18,7 +18,7 @@ use Rattle.unit_control.specs.declared.sessions.Attached.{Attached}
 use Rattle.unit_control.specs.State.{ControlValue}
 use Rattle.unit_control.specs.Choice.{Choice}
 use Rattle.unit_control.specs.Sessions.{session_of, sender_of, nexus_in, next_of, pending_in, pending_of}
-use Rattle.unit_control.specs.Sessions.{one_command_more, command_counted, tell_one, told, ended, heard_reset, all_reset}
+use Rattle.unit_control.specs.Sessions.{one_command_more, command_counted, report_first, told, ended, reset_established, all_reset}
 use Rattle.unit_control.specs.Refusal.{Request, refusal}
 use Rattle.unit_control.specs.Entry.{IsNext, control_with}
 use Rattle.unit_state.proofs.CommandLaws.{next_counted, next_kept}
@@ -41,7 +41,7 @@ taken_once c r choice serial is again =
 
 -- ---- attentions
 
-pending_told_in : (old mid new : Option Attached) → mid ≡ option_map tell_one old → new ≡ option_map one_command_more mid
+pending_told_in : (old mid new : Option Attached) → mid ≡ option_map report_first old → new ≡ option_map one_command_more mid
     → pending_in new ≡ drop 1 (pending_in old)
 pending_told_in None mid new is then_is = rw (then_is, is) refl
 pending_told_in (Some a) mid new is then_is = rw (then_is, is) refl
@@ -52,7 +52,7 @@ pub pending_told : (sessions : List Attached) (id : ℕ)
 pending_told sessions id =
     pending_told_in (session_of sessions id) (session_of (told sessions id) id)
     (session_of (command_counted (told sessions id) id) id)
-    (session_changed tell_one (λ a. refl) sessions id)
+    (session_changed report_first (λ a. refl) sessions id)
     (session_changed one_command_more (λ a. refl) (told sessions id) id)
 
 pub told_no_more : (codes : List UnitAttention) (attention : UnitAttention) → IsTrue (without_repeats codes)
@@ -81,7 +81,7 @@ own_after untold c session asked Full is = refl
 
 -- ---- resets and ends
 
-reset_keeps : (id : ℕ) (a : Attached) → (heard_reset id a).id ≡ a.id
+reset_keeps : (id : ℕ) (a : Attached) → (reset_established id a).id ≡ a.id
 reset_keeps id a =
     ⊎_elim (λ (t : (nat_eq a.id id ≡ true) × (a.id ≡ id)). rw t.0 refl)
     (λ (n : (nat_eq a.id id ≡ false) × (a.id ≢ id)). rw n.0 refl) (eqb_tells a.id id)
@@ -90,14 +90,14 @@ same_id : (sessions : List Attached) (id : ℕ) (a : Attached) → session_of se
 same_id sessions id a h = eq-eqb a.id id (has_id sessions id a h)
 
 reset_own_in : (sessions : List Attached) (id : ℕ) (o : Option Attached) → session_of sessions id ≡ o
-    → pending_in (option_map (heard_reset id) o) ≡ pending_in o
+    → pending_in (option_map (reset_established id) o) ≡ pending_in o
 reset_own_in sessions id None h = refl
 reset_own_in sessions id (Some a) h = rw (same_id sessions id a h) refl
 
 -- who asks for a reset is told what it was to be told
 pub reset_own : (sessions : List Attached) (id : ℕ) → pending_of (all_reset sessions id) id ≡ pending_of sessions id
 reset_own sessions id =
-    ap pending_in (session_mapped (heard_reset id) (reset_keeps id) sessions id)
+    ap pending_in (session_mapped (reset_established id) (reset_keeps id) sessions id)
     ∙ reset_own_in sessions id (session_of sessions id) refl
 
 other_id : (a : Attached) (id other : ℕ) → other ≢ id → nat_eq a.id other ≡ true → nat_eq a.id id ≡ false
@@ -108,7 +108,7 @@ other_id a id other apart is =
     (λ (n : (nat_eq a.id id ≡ false) × (a.id ≢ id)). n.0) (eqb_tells a.id id)
 
 reset_other_in : (sessions : List Attached) (id other : ℕ) (o : Option Attached) → other ≢ id
-    → session_of sessions other ≡ o → IsSome o → pending_in (option_map (heard_reset id) o) ≡ PowerOn ∷ []
+    → session_of sessions other ≡ o → IsSome o → pending_in (option_map (reset_established id) o) ≡ PowerOn ∷ []
 reset_other_in sessions id other None apart h there = absurd (cc)
 reset_other_in sessions id other (Some a) apart h there = rw (other_id a id other apart (same_id sessions other a h)) refl
 
@@ -116,7 +116,7 @@ reset_other_in sessions id other (Some a) apart h there = rw (other_id a id othe
 pub reset_other : (sessions : List Attached) (id other : ℕ) → other ≢ id → IsSome (session_of sessions other)
     → pending_of (all_reset sessions id) other ≡ PowerOn ∷ []
 reset_other sessions id other apart there =
-    ap pending_in (session_mapped (heard_reset id) (reset_keeps id) sessions other)
+    ap pending_in (session_mapped (reset_established id) (reset_keeps id) sessions other)
     ∙ reset_other_in sessions id other (session_of sessions other) apart refl there
 
 -- ---- changes of access states

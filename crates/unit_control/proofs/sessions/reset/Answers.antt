@@ -1,5 +1,5 @@
 use Rattle.std.proofs.Common.{refl}
-use Rattle.unit_control.specs.Sessions.{heard_reset}
+use Rattle.unit_control.specs.Sessions.{reset_established}
 use Rattle.unit_control.proofs.Places.{next_changed, written_back}
 use Rattle.unit_control.proofs.sessions.reset.Goals as goal
 
@@ -9,12 +9,12 @@ loop-attached-init c = refl
 pub loop-attached-preserved : goal.loop-attached-preserved
 loop-attached-preserved c =
     rw (c.hear_reset.ensures, ← c.attached-item.is)
-    (next_changed (heard_reset c.args.by) c.deref_mut-attached-items.result.now c.loop-attached.attached-items
+    (next_changed (reset_established c.args.by) c.deref_mut-attached-items.result.now c.loop-attached.attached-items
     c.loop-attached.attached-index c.attached-item.result c.loop-attached.invariant c.loop-attached-test.true
     c.attached-item.is)
 
 pub returns-clause-items : goal.returns-clause-items
 returns-clause-items c =
     let of = c.deref_mut-attached-items in
-    written_back (heard_reset c.args.by) _ of.result.now _ _ _ of.ensures.value of.ensures.len c.loop-attached.invariant
+    written_back (reset_established c.args.by) _ of.result.now _ _ _ of.ensures.value of.ensures.len c.loop-attached.invariant
     c.loop-attached.auto.attached-items c.loop-attached-test.false

@@ -1,14 +1,14 @@
 use Rattle.std.proofs.Common.{All, List, arith, refl, subst, sym}
 use Rattle.unit_control.specs.Places.{IsPlaceOf}
 use Rattle.unit_control.specs.Reserve.{hear}
-use Rattle.unit_control.specs.Sessions.{IsFit}
+use Rattle.unit_control.specs.Sessions.{HasCountedSerial}
 use Rattle.unit_control.specs.declared.sessions.Attached.{Attached}
 use Rattle.unit_control.proofs.Places.{place_mapped, serials_fit_heard}
 use Rattle.unit_control.proofs.control.Control.put_in_force.Goals as goal
 
 pub invariant_of-self : goal.invariant_of-self
 invariant_of-self c = (
-  subst (λ (ss : List Attached). All (IsFit c.self.inside.count) ss) (sym c.hear_all.ensures.items)
+  subst (λ (ss : List Attached). All (HasCountedSerial c.self.inside.count) ss) (sym c.hear_all.ensures.items)
       (serials_fit_heard _ c.self.inside.sessions.items c.self.inside.count c.self.invariant.0),
   omega (arith, c.hear_all.ensures.capacity, c.self.invariant.1),
 )

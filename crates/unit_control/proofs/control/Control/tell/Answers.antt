@@ -1,7 +1,7 @@
 use Rattle.std.proofs.Common.{◌≡◌, refl, ap, List}
 use Rattle.unit_control.specs.declared.sessions.Attached.{Attached}
 use Rattle.unit_control.specs.Places.{IsPlaceOf}
-use Rattle.unit_control.specs.Sessions.{tell_one, told}
+use Rattle.unit_control.specs.Sessions.{report_first, told}
 use Rattle.unit_control.specs.Saving.{is_doubtful, records_left}
 use Rattle.unit_control.specs.State.{ControlValue}
 use Rattle.unit_control.proofs.Places.{changed_at, place_stays}
@@ -12,7 +12,7 @@ returns-clause-told c =
     let place : IsPlaceOf c.self.inside.sessions.items c.args.sender.session c.args.sender.at =
     rw (← c.self.view_is) at c.requires in
     let is : c.tell_at.new.sessions.items ≡ told c.self.inside.sessions.items c.args.sender.session =
-    changed_at tell_one _ _ _ _ place c.tell_at.ensures.told in
+    changed_at report_first _ _ _ _ place c.tell_at.ensures.told in
     rw (← c.self.view_is)
     (ap (λ (ss : List Attached). let v : ControlValue = record {
       place = c.self.inside.place;
@@ -30,5 +30,5 @@ returns-clause-stays c =
     let place : IsPlaceOf c.self.inside.sessions.items c.args.sender.session c.args.sender.at =
     rw (← c.self.view_is) at c.requires in
     let is : c.tell_at.new.sessions.items ≡ told c.self.inside.sessions.items c.args.sender.session =
-    changed_at tell_one _ _ _ _ place c.tell_at.ensures.told in
-    rw (← c.self.view_is) (record { total = refl; count = refl; place = place_stays tell_one (λ a. refl) _ _ _ _ place is })
+    changed_at report_first _ _ _ _ place c.tell_at.ensures.told in
+    rw (← c.self.view_is) (record { total = refl; count = refl; place = place_stays report_first (λ a. refl) _ _ _ _ place is })
