@@ -8,11 +8,10 @@ ghost use Rattle.array_units.specs.Places.{place_of};
 ghost use Rattle.array_units.specs.Rows.{IsRead};
 
 use access_states::Change;
-use block_file::{Blocks, DeviceFailed, Opener};
+use block_file::{Blocks, DeviceFailed, Opener, Room};
 use reservations::Registry;
 use scsi_types::{Asked, Group, PortName, Reply};
 use status::Row;
-use std::alloc::Global;
 use std::sync::{Mutex, Wait};
 use unit_history::{LegalHistory, Opened, Pass, Seat, SharedUnit};
 use unit_lock::Refused;
@@ -86,7 +85,7 @@ impl<B: Blocks, F: Blocks, O: Opener<B>, N: Array<Opened>> AnyUnit<B, F, O, N> {
         &self,
         rt: &W,
         pass: Pass<B, F, O, N>,
-        alloc: Global,
+        room: Room,
         by_group: &Group,
         asked: &Asked,
         bytes: &[u8],
@@ -103,7 +102,7 @@ impl<B: Blocks, F: Blocks, O: Opener<B>, N: Array<Opened>> AnyUnit<B, F, O, N> {
         each!(
             self,
             seated,
-            seated.unit.serve(rt, pass, alloc, by_group, asked, bytes)
+            seated.unit.serve(rt, pass, room, by_group, asked, bytes)
         )
     }
 

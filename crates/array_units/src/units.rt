@@ -10,7 +10,7 @@ ghost use Rattle.array_units.specs.Rows.{IsRead};
 
 use crate::any_unit::{AnyUnit, Seated};
 use access_states::Change;
-use block_file::{Blocks, DeviceFailed, Opener};
+use block_file::{Blocks, DeviceFailed, Opener, Room};
 use crossbeam_utils::CachePadded;
 use reservations::Registry;
 use scsi_types::{Asked, Group, NoMemory, PortName, Reply};
@@ -166,7 +166,7 @@ impl<B: Blocks, F: Blocks, O: Opener<B>, N: Array<Opened>> Units<B, F, O, N> {
         &self,
         rt: &W,
         pass: Pass<B, F, O, N>,
-        alloc: Global,
+        room: Room,
         by_group: &Group,
         asked: &Asked,
         bytes: &[u8],
@@ -181,8 +181,7 @@ impl<B: Blocks, F: Blocks, O: Opener<B>, N: Array<Opened>> Units<B, F, O, N> {
             result.0.pass by_group.now asked.now bytes.now why) }
     {
         let place = pass.place();
-        self.at(place)
-            .serve(rt, pass, alloc, by_group, asked, bytes)
+        self.at(place).serve(rt, pass, room, by_group, asked, bytes)
     }
 
     /// Resets the unit of the session, as [`unit_history::SharedUnit::reset`].

@@ -1,10 +1,11 @@
-ghost use Rattle.std.specs.Prelude.{◌≡◌, ◌<◌, ◌≤◌, ◌+◌, ◌/◌, ◌^◌, List, ℕ, Bool, length, min, IsTrue, OnOk};
+ghost use Rattle.std.specs.Prelude.{◌≡◌, ◌<◌, ◌≤◌, ◌+◌, ◌/◌, ◌^◌, List, ℕ, Bool, length, min, IsTrue, IfOk, OnOk};
 ghost use Rattle.block_file.specs.declared.blocks.TheConstants.{BLOCK_LENGTH};
 ghost use Rattle.block_file.specs.Cut.{run_of, IsRun};
 ghost use Rattle.block_file.specs.Disk.{block_at, written, range_bytes, Between, NoMore, Adds, Only, MayLeave};
 ghost use Rattle.block_file.specs.Moment.{TimePasses};
 ghost use Rattle.block_file.specs.Failures.{Counts, last_count};
 
+use disk_preparer::BlockMemory;
 use thiserror::Error;
 
 /// The length of a block in bytes (SBC-3, READ CAPACITY (10): LOGICAL BLOCK LENGTH IN BYTES).
@@ -66,6 +67,27 @@ pub trait Blocks: Drop {
         ensures failures { Counts (failures self.old) (failures self.new) result }
         ensures failed_reads { Counts (reads_failed self.old) (reads_failed self.new) result }
         ensures failed_writes { writes_failed self.new ≡ writes_failed self.old };
+
+    /// Reads a run of whole blocks, which lies in the device, into memory of as many bytes, which goes to the device and comes back.
+    /// Where the memory holds these blocks as they were read beside the device, a device may give them as they are, if no write of its
+    /// own has ended since. After a failure the memory is gone.
+    fn read_into(&mut self, first: u32, memory: BlockMemory) -> Result<Vec<u8>, DeviceFailed>
+        requires { IsRun (size self.old) first (length memory.bytes.items) }
+        ensures size { size self.new ≡ size self.old }
+        ensures many { IfOk result (λ blocks. length blocks.items ≡ length memory.bytes.items) }
+        ensures read { IsTrue claims → IfOk result (λ blocks.
+            blocks.items ≡ range_bytes (contents self.old) first (length memory.bytes.items / BLOCK_LENGTH)) }
+        ensures contents { IsTrue claims → contents self.new ≡ contents self.old }
+        ensures crash { IsTrue claims → NoMore (may_hold self.old) (may_hold self.new) }
+        ensures time { IsTrue claims_moments → TimePasses moment left_since size may_hold self.old self.new }
+        ensures failures { Counts (failures self.old) (failures self.new) result }
+        ensures failed_reads { Counts (reads_failed self.old) (reads_failed self.new) result }
+        ensures failed_writes { writes_failed self.new ≡ writes_failed self.old }
+    {
+        let mut bytes = memory.bytes;
+        self.read_run(first, bytes.as_mut_slice())?;
+        Ok(bytes)
+    }
 
     /// Writes a run of whole blocks, which lies in the device. After a failure each of them is the old one or the new
     /// one.

@@ -6,8 +6,10 @@ mod fused;
 pub mod laws;
 mod mem;
 mod opener;
+mod room;
 
 pub use blocks::{BLOCK_LENGTH, Blocks, DeviceFailed};
 pub use fused::FusedBlocks;
 pub use mem::MemBlocks;
 pub use opener::{FusedOpener, KeepOpener, Opener};
+pub use room::Room;

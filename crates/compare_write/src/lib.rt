@@ -8,4 +8,4 @@ mod medium;
 
 pub use compare::{MOST_COMPARED, compare_and_write};
 pub use end::MediumEnd;
-pub use medium::{read_range, sync, write_range};
+pub use medium::{read_range, read_range_into, sync, write_range};

@@ -8,6 +8,7 @@ ghost use Rattle.compare_write.specs.Ends.{IsUnfailed, IsReadEnd, IsWriteEnd, Is
 
 use crate::MediumEnd;
 use block_file::{BLOCK_LENGTH, Blocks, DeviceFailed};
+use disk_preparer::BlockMemory;
 
 /// Reads the blocks of a range into `out`, which has as many bytes (SBC-3, READ (10) command).
 ///
@@ -35,6 +36,40 @@ pub fn read_range<B: Blocks>(device: &mut B, lba: u32, blocks: u16, out: &mut [u
         return MediumEnd::ReadFailed;
     };
     MediumEnd::Done
+}
+
+/// The same into memory of as many bytes, which goes to the device and comes back where it is Done. It may hold the blocks already.
+pub fn read_range_into<B: Blocks>(
+    device: &mut B,
+    lba: u32,
+    blocks: u16,
+    memory: BlockMemory,
+) -> (MediumEnd, Vec<u8>)
+    requires range { lba + blocks ≤ B.size device.old }
+    requires room { length memory.bytes.items ≡ BLOCK_LENGTH * blocks }
+    ensures size { B.size device.new ≡ B.size device.old }
+    ensures ends { IsReadEnd result.0 }
+    ensures many { OnDone result.0 (length result.1.items ≡ BLOCK_LENGTH * blocks) }
+    ensures short { length result.1.items ≤ BLOCK_LENGTH * blocks }
+    ensures failures { Tells (B.failures device.old) (B.failures device.new) (IsUnfailed result.0) }
+    ensures failed_reads { Tells (B.reads_failed device.old) (B.reads_failed device.new) (IsUnfailed result.0) }
+    ensures failed_writes { B.writes_failed device.new ≡ B.writes_failed device.old }
+    ensures idle { blocks ≡ 0 → device.new ≡ device.old }
+    ensures read { IsTrue B.claims → OnDone result.0
+        (result.1.items ≡ range_bytes (B.contents device.old) lba blocks) }
+    ensures contents { IsTrue B.claims → B.contents device.new ≡ B.contents device.old }
+    ensures crash { IsTrue B.claims → NoMore (B.may_hold device.old) (B.may_hold device.new) }
+    ensures stop { IsTrue B.claims → IsTrue B.claims_moments
+        → StopsAmong B.moment B.left_since B.size (B.may_hold device.old) device.old device.new }
+{
+    if blocks == 0 {
+        return (MediumEnd::Done, memory.bytes);
+    }
+    let alloc = *memory.bytes.allocator();
+    match device.read_into(lba, memory) {
+        Ok(bytes) => (MediumEnd::Done, bytes),
+        Err(DeviceFailed) => (MediumEnd::ReadFailed, Vec::new(alloc)),
+    }
 }
 
 /// Writes the first of `bytes`, as many as the range has, to it (SBC-3, WRITE (10) command).

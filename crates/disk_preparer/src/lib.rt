@@ -2,11 +2,16 @@
 //!
 //! A device serves one call at a time, under its unit's lock, and waits there for its disk. A [`Preparer`] is a handle of its own
 //! on the same disk, by which any thread waits without the lock: before it takes the lock, for the blocks that it will read; and
-//! behind it, for the flush of what it wrote. It changes no block: a unit that is not prepared, or by a preparer that fails to read,
-//! does the same and waits longer.
+//! behind it, for the flush of what it wrote. It may also read these blocks itself ([`BlockMemory`]): the device takes them where no
+//! write of its own has ended since, and else reads them once more. It changes no block: a unit that is not prepared, or by a preparer
+//! that fails to read, does the same and waits longer.
 #![tactic(auto)]
 
-ghost use Rattle.std.specs.Prelude.{◌≡◌, Bool, IsTrue, false};
+ghost use Rattle.std.specs.Prelude.{◌≡◌, Bool, IfSome, IsTrue, false, length};
+
+mod memory;
+
+pub use memory::{Beside, BlockMemory};
 
 /// What a file is by, whatever its names: the number of its file system, and its own there.
 #[derive(Clone, Copy, PartialEq, Eq)]
@@ -63,6 +68,15 @@ pub trait Preparer: Drop {
 
     /// These blocks are written next: waits likewise for what the system has to read first.
     fn fetch_edges(&self, first: u64, blocks: u16);
+
+    /// A session's command with this serial writes these blocks next: has the processor fetch them from the system's memory, where
+    /// commands of other sessions come between, so that these wait less for the lock.
+    fn touch(&self, _serial: u64, _first: u64, _blocks: u16) {}
+
+    /// Reads blocks from this one on beside the device, as many as the memory has bytes for; and looks how long that takes, where it is
+    /// asked to. Where it does not read, or the disk fails to, the memory comes back and holds nothing. None: the memory is gone.
+    fn read(&self, first: u64, bytes: Vec<u8>, is_looked_at: bool) -> Option<BlockMemory>
+        ensures { IfSome result (λ memory. length memory.bytes.items ≡ length bytes.items) };
 
     /// Whether flushes may be left to it.
     fn flushes(&self) -> bool

@@ -7,7 +7,7 @@ ghost use Rattle.unit_entries.specs.Devices.{devices};
 use crate::job::{Answer, Job, Ticket, Waiting, prepare};
 use crate::queue::{NotQueued, Queue};
 use array_units::Units;
-use block_file::{Blocks, Opener};
+use block_file::{Blocks, Opener, Room};
 use crossbeam_utils::CachePadded;
 use scsi_types::{Asked, Group, NoMemory, Reply};
 use std::alloc::Global;
@@ -227,7 +227,7 @@ impl<B: Blocks, F: Blocks, O: Opener<B>, N: Array<Opened>> Desk<B, F, O, N> {
     pub fn serve_own<W: Wait>(
         &self,
         rt: &W,
-        alloc: Global,
+        room: Room,
         units: &Units<B, F, O, N>,
         ticket: Ticket<'_, B, F, O, N>,
     ) -> (Pass<B, F, O, N>, Result<Reply, Refused<Group>>)
@@ -237,7 +237,7 @@ impl<B: Blocks, F: Blocks, O: Opener<B>, N: Array<Opened>> Desk<B, F, O, N> {
             result.0.pass result.1 }
     {
         match self.take_back(rt, &ticket) {
-            Some(pass) => ticket.serve(rt, alloc, units, pass),
+            Some(pass) => ticket.serve(rt, room, units, pass),
             None => ticket.collect(rt),
         }
     }
@@ -247,7 +247,7 @@ impl<B: Blocks, F: Blocks, O: Opener<B>, N: Array<Opened>> Desk<B, F, O, N> {
     fn serve_at_once<W: Wait>(
         &self,
         rt: &W,
-        alloc: Global,
+        room: Room,
         units: &Units<B, F, O, N>,
         pass: Pass<B, F, O, N>,
         asked: &Asked,
@@ -263,7 +263,7 @@ impl<B: Blocks, F: Blocks, O: Opener<B>, N: Array<Opened>> Desk<B, F, O, N> {
         if self.is_closed.load(Ordering::SeqCst) {
             return (pass, Err(DeskFault::Closed));
         }
-        let (pass, end) = units.serve(rt, pass, alloc, &self.group, asked, bytes);
+        let (pass, end) = units.serve(rt, pass, room, &self.group, asked, bytes);
         (pass, Ok(end))
     }
 
@@ -272,7 +272,7 @@ impl<B: Blocks, F: Blocks, O: Opener<B>, N: Array<Opened>> Desk<B, F, O, N> {
     fn serve_queued<W: Wait>(
         &self,
         rt: &W,
-        alloc: Global,
+        room: Room,
         units: &Units<B, F, O, N>,
         pass: Pass<B, F, O, N>,
         asked: &Asked,
@@ -285,13 +285,13 @@ impl<B: Blocks, F: Blocks, O: Opener<B>, N: Array<Opened>> Desk<B, F, O, N> {
         ensures { IsSettled (devices B.Blocks F.Blocks O.Opener) (N.opening pass.place) pass
             (handed_of pass asked.now bytes.now self.now) result.0 result.1 }
     {
-        match self.submit(rt, alloc, pass, asked, bytes) {
+        match self.submit(rt, room.alloc(), pass, asked, bytes) {
             Ok(ticket) => {
-                let (pass, end) = self.serve_own(rt, alloc, units, ticket);
+                let (pass, end) = self.serve_own(rt, room, units, ticket);
                 (pass, Ok(end))
             }
             Err((DeskFault::NoMemory, pass)) => {
-                self.serve_at_once(rt, alloc, units, pass, asked, bytes)
+                self.serve_at_once(rt, room, units, pass, asked, bytes)
             }
             Err((DeskFault::Full, pass)) => (pass, Err(DeskFault::Full)),
             Err((DeskFault::Closed, pass)) => (pass, Err(DeskFault::Closed)),
@@ -304,7 +304,7 @@ impl<B: Blocks, F: Blocks, O: Opener<B>, N: Array<Opened>> Desk<B, F, O, N> {
     pub fn serve<W: Wait>(
         &self,
         rt: &W,
-        alloc: Global,
+        room: Room,
         units: &Units<B, F, O, N>,
         pass: Pass<B, F, O, N>,
         asked: &Asked,
@@ -318,14 +318,14 @@ impl<B: Blocks, F: Blocks, O: Opener<B>, N: Array<Opened>> Desk<B, F, O, N> {
             (handed_of pass asked.now bytes.now self.now) result.0 result.1 }
     {
         if bytes.len() > LONGEST_COPY {
-            return self.serve_at_once(rt, alloc, units, pass, asked, bytes);
+            return self.serve_at_once(rt, room, units, pass, asked, bytes);
         }
         if self.at_once.fetch_add(1, Ordering::SeqCst) < AT_ONCE {
-            let served = self.serve_at_once(rt, alloc, units, pass, asked, bytes);
+            let served = self.serve_at_once(rt, room, units, pass, asked, bytes);
             self.at_once.fetch_sub(1, Ordering::SeqCst);
             return served;
         }
         self.at_once.fetch_sub(1, Ordering::SeqCst);
-        self.serve_queued(rt, alloc, units, pass, asked, bytes)
+        self.serve_queued(rt, room, units, pass, asked, bytes)
     }
 }

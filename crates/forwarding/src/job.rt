@@ -6,7 +6,7 @@ ghost use Rattle.unit_entries.specs.Devices.{devices};
 
 use crate::names::{are_of, named, serve_named};
 use array_units::Units;
-use block_file::{Blocks, Opener};
+use block_file::{Blocks, Opener, Room};
 use desk_jobs::Names;
 use scsi_types::{Asked, Group, NoMemory, Reply};
 use std::alloc::Global;
@@ -159,7 +159,7 @@ impl<B: Blocks, F: Blocks, O: Opener<B>, N: Array<Opened>> Job<B, F, O, N> {
         } = waiting;
         let names = named(&pass, &asked, by_group);
         let before = pass.history();
-        let (pass, end) = serve_named(&names, rt, alloc, units, pass, bytes.as_slice());
+        let (pass, end) = serve_named(&names, rt, Room::new(alloc), units, pass, bytes.as_slice());
         Answer {
             ended: Ended {
                 names,
@@ -268,7 +268,7 @@ impl<'a, B: Blocks, F: Blocks, O: Opener<B>, N: Array<Opened>> Ticket<'a, B, F, 
     pub(crate) fn serve<W: Wait>(
         self,
         rt: &W,
-        alloc: Global,
+        room: Room,
         units: &Units<B, F, O, N>,
         pass: Pass<B, F, O, N>,
     ) -> (Pass<B, F, O, N>, Result<Reply, Refused<Group>>)
@@ -278,7 +278,7 @@ impl<'a, B: Blocks, F: Blocks, O: Opener<B>, N: Array<Opened>> Ticket<'a, B, F, 
         ensures end { HasAnswered (devices B.Blocks F.Blocks O.Opener) (N.opening self.entry.names.place) self.entry
             result.0.pass result.1 }
     {
-        serve_named(&self.names, rt, alloc, units, pass, self.bytes)
+        serve_named(&self.names, rt, room, units, pass, self.bytes)
     }
 
     // Its answer, once it is there. Another's is left where it is.

@@ -5,10 +5,9 @@ ghost use Rattle.forwarding.specs.Served.{HasAnswered, handed};
 ghost use Rattle.unit_entries.specs.Devices.{devices};
 
 use array_units::Units;
-use block_file::{Blocks, Opener};
+use block_file::{Blocks, Opener, Room};
 use desk_jobs::Names;
 use scsi_types::{Asked, Group, Reply};
-use std::alloc::Global;
 use std::sync::Wait;
 use unit_history::{Opened, Pass, Refused};
 use unit_sequence::Array;
@@ -44,7 +43,7 @@ pub(crate) fn are_of<B: Blocks, F: Blocks, O: Opener<B>, N: Array<Opened>>(
 pub(crate) fn serve_named<B: Blocks, F: Blocks, O: Opener<B>, N: Array<Opened>, W: Wait>(
     names: &Names,
     rt: &W,
-    alloc: Global,
+    room: Room,
     units: &Units<B, F, O, N>,
     pass: Pass<B, F, O, N>,
     bytes: &[u8],
@@ -55,5 +54,5 @@ pub(crate) fn serve_named<B: Blocks, F: Blocks, O: Opener<B>, N: Array<Opened>, 
     ensures end { HasAnswered (devices B.Blocks F.Blocks O.Opener) (N.opening names.now.place)
         (handed names.now bytes.now pass.pass.seen) result.0.pass result.1 }
 {
-    units.serve(rt, pass, alloc, &names.by_group, &names.asked, bytes)
+    units.serve(rt, pass, room, &names.by_group, &names.asked, bytes)
 }

@@ -6,7 +6,7 @@ ghost use Rattle.unit_control.specs.Entry.{IsAttached, IsNext};
 ghost use Rattle.unit_control.specs.State.{opening_control};
 
 use aptpl_file::{FILE_BLOCKS, RegFile};
-use block_file::{Blocks, KeepOpener, MemBlocks};
+use block_file::{Blocks, KeepOpener, MemBlocks, Room};
 use identity::absent;
 use reservations::Record;
 use scsi_types::{Asked, Group, NoMemory, Place};
@@ -60,7 +60,7 @@ fn step<B: Blocks>(
     ensures { IsStepped B.Blocks ⟦<MemBlocks as Blocks>⟧ (record { unit = unit.old; at = at.old })
         (record { unit = Some 0; asked = asked; bytes = bytes.now }) result (record { unit = unit.new; at = at.new }) }
 {
-    match unit.step(alloc, at.session, at.serial, at.by, asked, bytes) {
+    match unit.step(Room::new(alloc), at.session, at.serial, at.by, asked, bytes) {
         StepEnd::Reply(reply) => {
             at.serial += 1;
             StepEnd::Reply(reply)

@@ -4,7 +4,7 @@ ghost use Rattle.aptpl_file.specs.Lasts.{EachOutcomeHolds};
 ghost use Rattle.once_target.specs.Once.{IsBegun};
 
 use crate::attachment::{Attachment, answer, open, reset};
-use block_file::{Blocks, KeepOpener, MemBlocks};
+use block_file::{Blocks, KeepOpener, MemBlocks, Room};
 use login::SessionType;
 use scsi_types::{Asked, Command, Group, NoMemory, PortName};
 use session::{BeginAnswer, ResetAnswer, Target, TargetAnswer};
@@ -54,7 +54,14 @@ impl<B: Blocks> OneUnit<B> {
         };
         let by = Group::One;
         // Takes the attention that the unit was powered on.
-        match unit.step(alloc, session, 1, by, Ok(Command::TestUnitReady), &[]) {
+        match unit.step(
+            Room::new(alloc),
+            session,
+            1,
+            by,
+            Ok(Command::TestUnitReady),
+            &[],
+        ) {
             StepEnd::Reply(_) => Ok(OneUnit {
                 alloc,
                 unit,

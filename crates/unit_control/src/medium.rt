@@ -9,37 +9,43 @@ ghost use Rattle.unit_control.specs.Medium.{Reads, Writes, Compares, Flushes, re
 ghost use Rattle.unit_control.specs.Worked.{IsWorked, OnReading, choice_at, finding_at};
 
 use block_file::{BLOCK_LENGTH, Blocks};
-use compare_write::{MOST_COMPARED, MediumEnd, compare_and_write, read_range, sync, write_range};
+use compare_write::{
+    MOST_COMPARED, MediumEnd, compare_and_write, read_range_into, sync, write_range,
+};
+use disk_preparer::BlockMemory;
 use scsi_types::{Reply, Sense};
 use std::alloc::Global;
 
-/// READ: with FUA what was written is made to last first, so that it comes from the medium.
+/// READ: with FUA what was written is made to last first, so that it comes from the medium, and not from what the memory holds. The
+/// memory has as many bytes, goes to the device and comes back.
 pub fn read<B: Blocks>(
     device: &mut B,
     lba: u32,
     blocks: u16,
     fua: bool,
-    out: &mut [u8],
-) -> MediumEnd
+    memory: BlockMemory,
+) -> (MediumEnd, Vec<u8>)
     requires range { lba + blocks ≤ B.size device.old }
-    requires room { length out.old ≡ BLOCK_LENGTH * blocks }
+    requires room { length memory.bytes.items ≡ BLOCK_LENGTH * blocks }
     ensures size { B.size device.new ≡ B.size device.old }
     ensures worked { IsWorked B.claims (B.contents device.old) (B.contents device.new)
-        (Reads (record { lba = lba; blocks = blocks }) fua) result out.new }
-    ensures failures { Tells (B.failures device.old) (B.failures device.new) (IsUnfailed result) }
-    ensures failed_reads { Tells (B.reads_failed device.old) (B.reads_failed device.new) (IsRead result) }
-    ensures failed_writes { Tells (B.writes_failed device.old) (B.writes_failed device.new) (IsWritten result) }
-    ensures durable { IsTrue B.claims → fua ≡ true → OnReading result
+        (Reads (record { lba = lba; blocks = blocks }) fua) result.0 result.1.items }
+    ensures short { length result.1.items ≤ BLOCK_LENGTH * blocks }
+    ensures failures { Tells (B.failures device.old) (B.failures device.new) (IsUnfailed result.0) }
+    ensures failed_reads { Tells (B.reads_failed device.old) (B.reads_failed device.new) (IsRead result.0) }
+    ensures failed_writes { Tells (B.writes_failed device.old) (B.writes_failed device.new) (IsWritten result.0) }
+    ensures durable { IsTrue B.claims → fua ≡ true → OnReading result.0
         (Only (B.contents device.new) (B.may_hold device.new)) }
     ensures left { IsTrue B.claims → LeavesAmong B.claims_moments B.moment B.left_since B.size B.may_hold
         (B.may_hold device.old) device.old device.new }
 {
     if !fua {
-        return read_range(device, lba, blocks, out);
+        return read_range_into(device, lba, blocks, memory);
     }
+    let fresh = BlockMemory::fresh(memory.bytes);
     match sync(device) {
-        MediumEnd::Done => read_range(device, lba, blocks, out),
-        end => end,
+        MediumEnd::Done => read_range_into(device, lba, blocks, fresh),
+        end => (end, fresh.bytes),
     }
 }
 

@@ -4,11 +4,10 @@ ghost use Rattle.unit_entries.specs.RowOf.{row_of};
 
 use crate::entry::{Arrival, Noted, Opened};
 use access_states::Change;
-use block_file::{Blocks, DeviceFailed, Opener};
+use block_file::{Blocks, DeviceFailed, Opener, Room};
 use reservations::Registry;
 use scsi_types::{Asked, Group, Reply};
 use status::{Published, Row};
-use std::alloc::Global;
 use std::marker::Brand;
 use unit_lock::{Machine, Refused};
 use unit_sequence::Array;
@@ -73,6 +72,8 @@ impl<B: Blocks, F: Blocks, O: Opener<B>> Machine<Noted, Opened> for Unit<B, F, O
     type Ask = Asked;
 
     type Reply = Reply;
+
+    type Memory = Room;
 
     type Change = Change;
 
@@ -166,14 +167,14 @@ impl<B: Blocks, F: Blocks, O: Opener<B>> Machine<Noted, Opened> for Unit<B, F, O
 
     fn step(
         &mut self,
-        alloc: Global,
+        room: Room,
         session: u64,
         serial: u64,
         by_group: &Group,
         ask: &Asked,
         bytes: &[u8],
     ) -> Result<Reply, Refused<Group>> {
-        match self.step(alloc, session, serial, *by_group, *ask, bytes) {
+        match self.step(room, session, serial, *by_group, *ask, bytes) {
             StepEnd::Reply(reply) => Ok(reply),
             StepEnd::Gone => Err(Refused::Gone),
             StepEnd::Moved(owner) => Err(Refused::Moved(owner)),

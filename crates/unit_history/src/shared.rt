@@ -8,7 +8,7 @@ ghost use Rattle.unit_history.specs.Naming.{IsNamedAt};
 
 use crate::new_unit::NewUnit;
 use access_states::Change;
-use block_file::{Blocks, DeviceFailed, Opener};
+use block_file::{Blocks, DeviceFailed, Opener, Room};
 use reservations::Registry;
 use scsi_types::{Asked, Group, NoMemory, PortName, Reply};
 use status::{Board as StatusBoard, MOST_SEATS, Seat as BoardSeat};
@@ -108,7 +108,7 @@ impl<B: Blocks, F: Blocks, O: Opener<B>, N: Array<Opened>, const U: usize> Share
         &self,
         rt: &W,
         pass: Pass<B, F, O, N>,
-        alloc: Global,
+        room: Room,
         by_group: &Group,
         asked: &Asked,
         bytes: &[u8],
@@ -122,7 +122,7 @@ impl<B: Blocks, F: Blocks, O: Opener<B>, N: Array<Opened>, const U: usize> Share
         ensures refused { IfErr result.1 (λ why. HasRefused (O.claims && B.claims) (N.opening U) pass.pass result.0.pass
             by_group.now asked.now bytes.now why) }
     {
-        self.unit.serve(rt, pass, alloc, by_group, asked, bytes)
+        self.unit.serve(rt, pass, room, by_group, asked, bytes)
     }
 
     /// Resets the unit for the session (SAM-5, logical unit reset). False: the session is gone.

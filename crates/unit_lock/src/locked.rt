@@ -128,7 +128,7 @@ impl<E, S, X: Machine<E, S>, N: Array<S>, const U: usize> Locked<E, S, X, N, U> 
         rt: &R,
         posted: &Posted<E, S, X, At<S, N, U>>,
         pass: PassAt<E, S, X, N, U>,
-        alloc: Global,
+        memory: X::Memory,
         by_group: &X::Group,
         ask: &X::Ask,
         bytes: &[u8],
@@ -155,7 +155,7 @@ impl<E, S, X: Machine<E, S>, N: Array<S>, const U: usize> Locked<E, S, X, N, U> 
         );
         match self
             .object
-            .step(alloc, session, serial, by_group, ask, bytes)
+            .step(memory, session, serial, by_group, ask, bytes)
         {
             Ok(reply) => {
                 let row = self.object.row();

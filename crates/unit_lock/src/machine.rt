@@ -1,6 +1,5 @@
 //! What is locked.
 use status::{Published, Row};
-use std::alloc::Global;
 
 /// Why a command of a session is no entry.
 #[derive(Clone, Copy, Drop)]
@@ -32,6 +31,9 @@ pub trait Machine<E, S>: Published<E, S> + Drop {
 
     /// What it is answered.
     type Reply: Drop;
+
+    /// What its reply takes memory from.
+    type Memory: Drop;
 
     /// What a move tells.
     type Change: Drop;
@@ -157,7 +159,7 @@ pub trait Machine<E, S>: Published<E, S> + Drop {
     /// Serves a command of a session.
     fn step(
         &mut self,
-        alloc: Global,
+        memory: Self::Memory,
         session: u64,
         serial: u64,
         by_group: &Self::Group,

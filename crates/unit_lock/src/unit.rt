@@ -117,7 +117,7 @@ impl<E, S, X: Machine<E, S>, N: Array<S>, const U: usize> LockedUnit<E, S, X, N,
         &self,
         rt: &R,
         pass: Pass<E, S, X, N>,
-        alloc: Global,
+        memory: X::Memory,
         by_group: &X::Group,
         ask: &X::Ask,
         bytes: &[u8],
@@ -139,7 +139,7 @@ impl<E, S, X: Machine<E, S>, N: Array<S>, const U: usize> LockedUnit<E, S, X, N,
         let pass = pass.at::<U>();
         let (pass, end) = self
             .lock(rt)
-            .serve(rt, &self.posted, pass, alloc, by_group, ask, bytes);
+            .serve(rt, &self.posted, pass, memory, by_group, ask, bytes);
         (Pass::of::<U>(pass), end)
     }
 

@@ -23,7 +23,7 @@ ghost use Rattle.unit_state.specs.Step.{MayTake, is_describing};
 use crate::devices::UnitDevices;
 use crate::reserve::{pr_out, reservation_data};
 use crate::rules::admit;
-use block_file::{BLOCK_LENGTH, Blocks, Opener};
+use block_file::{BLOCK_LENGTH, Blocks, Opener, Room};
 use identity::{
     inquiry, mode_sense, read_capacity_10, read_capacity_16, report_luns, request_sense,
 };
@@ -39,7 +39,7 @@ use unit_control::{Control, Refusal, Sender};
 pub fn answer<B: Blocks, F: Blocks, O: Opener<B>>(
     devices: &mut UnitDevices<B, F, O>,
     control: &mut Control,
-    alloc: Global,
+    room: Room,
     sender: Sender,
     asked: Asked,
     bytes: &[u8],
@@ -60,10 +60,10 @@ pub fn answer<B: Blocks, F: Blocks, O: Opener<B>>(
         Ok(command) => command,
         Err(refusal) => {
             refuse(control, sender, refusal);
-            return Ok(refusal.reply(alloc));
+            return Ok(refusal.reply(room.alloc()));
         }
     };
-    serve(devices, control, alloc, sender, command, bytes)
+    serve(devices, control, room, sender, command, bytes)
 }
 
 /// What telling a refusal changes.
@@ -84,7 +84,7 @@ fn refuse(control: &mut Control, sender: Sender, refusal: Refusal)
 fn serve<B: Blocks, F: Blocks, O: Opener<B>>(
     devices: &mut UnitDevices<B, F, O>,
     control: &mut Control,
-    alloc: Global,
+    room: Room,
     sender: Sender,
     command: Command,
     bytes: &[u8],
@@ -105,7 +105,7 @@ fn serve<B: Blocks, F: Blocks, O: Opener<B>>(
             &mut devices.device,
             &mut devices.opener,
             control,
-            alloc,
+            room.alloc(),
             sender,
             list_length,
             bytes,
@@ -119,7 +119,7 @@ fn serve<B: Blocks, F: Blocks, O: Opener<B>>(
             &mut devices.file,
             control,
             &mut devices.scratch,
-            alloc,
+            room.alloc(),
             sender,
             pr_out(action, scope, kind, bytes),
         )),
@@ -136,7 +136,7 @@ fn serve<B: Blocks, F: Blocks, O: Opener<B>>(
         | Command::ReportTargetPortGroups { .. }
         | Command::ReadCapacity10
         | Command::ReadCapacity16 { .. } => {
-            perform(&mut devices.device, control, alloc, sender, command, bytes)
+            perform(&mut devices.device, control, room, sender, command, bytes)
         }
     }
 }
@@ -145,7 +145,7 @@ fn serve<B: Blocks, F: Blocks, O: Opener<B>>(
 fn perform<B: Blocks>(
     device: &mut B,
     control: &mut Control,
-    alloc: Global,
+    room: Room,
     sender: Sender,
     command: Command,
     bytes: &[u8],
@@ -176,15 +176,16 @@ fn perform<B: Blocks>(
         (holds_after (B.contents device.old) (work_of command bytes.now)
         (choice_of reply (B.contents device.new) control.new.lasting) (B.may_hold device.old)) device.old device.new) }
 {
+    let alloc = room.alloc();
     match command {
         Command::TestUnitReady => Ok(Reply::good(Vec::new(alloc))),
         Command::RequestSense { allocation } => {
             Ok(Reply::good(sense(control, alloc, sender, allocation)?))
         }
         Command::Read { lba, blocks, fua } => {
-            let mut out = vec![in alloc; 0u8; BLOCK_LENGTH * usize::from(blocks)]?;
-            let end = read(device, lba as u32, blocks, fua, &mut out);
-            Ok(medium_reply(alloc, end, out))
+            let memory = room.memory(BLOCK_LENGTH * usize::from(blocks))?;
+            let (end, read) = read(device, lba as u32, blocks, fua, memory);
+            Ok(medium_reply(alloc, end, read))
         }
         Command::Write { lba, blocks, fua } => {
             let end = write(device, lba as u32, blocks, fua, bytes);

@@ -8,7 +8,7 @@ use crate::commands::answer;
 use crate::devices::UnitDevices;
 use access_states::{AsetFault, Cause, Change};
 use aptpl_file::RegFile;
-use block_file::{Blocks, DeviceFailed, Opener};
+use block_file::{Blocks, DeviceFailed, Opener, Room};
 use reservations::{Record, Registry};
 use scsi_types::{Asked, Group, NoMemory, Place, PortName, Reply};
 use std::alloc::Global;
@@ -177,7 +177,7 @@ impl<B: Blocks, F: Blocks, O: Opener<B>> Unit<B, F, O> {
     /// Serves one command of a session, with the data that came for it.
     pub fn step(
         &mut self,
-        alloc: Global,
+        room: Room,
         session: SessionId,
         serial: u64,
         by: Group,
@@ -251,7 +251,7 @@ impl<B: Blocks, F: Blocks, O: Opener<B>> Unit<B, F, O> {
         let reply = match answer(
             &mut self.devices,
             &mut self.control,
-            alloc,
+            room,
             sender,
             asked,
             bytes,

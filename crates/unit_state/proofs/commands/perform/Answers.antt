@@ -1,7 +1,6 @@
-use Rattle.std.proofs.Common.{◌≡◌, ◌∙◌, ap, length, refl, arith, inl, inr}
+use Rattle.std.proofs.Common.{◌≡◌, ◌∙◌, ap, refl, inl, inr}
 use Rattle.std.specs.Prelude.{IsTrue}
 use Rattle.unit_state.specs.Step.{is_describing}
-use Rattle.std.proofs.lemmas.List.{take_at}
 use Rattle.scsi_types.specs.ReplyValue.{good}
 use Rattle.unit_state.proofs.Served.{medium_served, good_served, described_served}
 use Rattle.unit_state.proofs.PowerLoss.{compared_left, idle_left}
@@ -12,13 +11,10 @@ pub returns-in-TestUnitReady-clause-served : goal.returns-in-TestUnitReady-claus
 returns-in-TestUnitReady-clause-served g c =
     rw c.in-TestUnitReady.is (good_served _ _ _ _ _ _ _ _ _ refl refl refl (c.good.ensures ∙ ap good c.new.ensures.items))
 
-pub returns-in_ok-out-in-Read-clause-served : goal.returns-in_ok-out-in-Read-clause-served
-returns-in_ok-out-in-Read-clause-served g c =
-    let long : length c.read-end.new.out ≡ c.in_ok-out-in-Read.out.len = omega arith in
-    rw c.in-Read.is
-    (medium_served _ _ _ _ _ _ _ _ _ _ _ _ (λ f. refl)
-    (λ d. refl) refl c.read-end.ensures.worked
-    (take_at c.read-end.new.out _ c.in_ok-out-in-Read.out.len long) c.medium_reply.ensures)
+pub returns-in_ok-memory-in-Read-clause-served : goal.returns-in_ok-memory-in-Read-clause-served
+returns-in_ok-memory-in-Read-clause-served g c =
+    rw c.in-Read.is (medium_served _ _ _ _ _ _ _ _ _ _ _ _ (λ f. refl)
+    (λ d. refl) refl c.read-end.ensures.worked refl c.medium_reply.ensures)
 
 pub returns-in-Write-clause-served : goal.returns-in-Write-clause-served
 returns-in-Write-clause-served g c =
@@ -73,8 +69,8 @@ pub returns-in-TestUnitReady-clause-left : goal.returns-in-TestUnitReady-clause-
 returns-in-TestUnitReady-clause-left g c = λ h.
     idle_left _ _ _ _ _ (g.B.Blocks.contents c.args.device.now) (work_of c.args.command c.args.bytes.now) _ c.args.device.now
 
-pub returns-in_ok-out-in-Read-clause-left : goal.returns-in_ok-out-in-Read-clause-left
-returns-in_ok-out-in-Read-clause-left g c = rw c.in-Read.is c.read-end.ensures.left
+pub returns-in_ok-memory-in-Read-clause-left : goal.returns-in_ok-memory-in-Read-clause-left
+returns-in_ok-memory-in-Read-clause-left g c = rw c.in-Read.is c.read-end.ensures.left
 
 pub returns-in-Write-clause-left : goal.returns-in-Write-clause-left
 returns-in-Write-clause-left g c = rw c.in-Write.is c.write-end.ensures.left
