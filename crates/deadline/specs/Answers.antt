@@ -1,8 +1,11 @@
 -- What the thread of a device answers: that the device was called so, and how that ended.
-use Rattle.std.specs.Prelude.{◌≡◌, ℕ, ◌/◌, Bool, IsTrue, List, length}
+use Rattle.std.specs.Prelude.{◌≡◌, ◌<◌, ◌⊎◌, ℕ, ◌/◌, Bool, IsTrue, List, length}
 use Rattle.block_file.specs.declared.blocks.TheConstants.{BLOCK_LENGTH}
 use Rattle.block_file.specs.Cut.{run_of}
 use Rattle.block_file.specs.Disk.{range_bytes, written, Only}
+use Rattle.block_file.specs.Failures.{last_count}
+use Rattle.disk_preparer.specs.declared.Node.{Node}
+use Rattle.disk_preparer.specs.Beside.{was_read}
 use Rattle.deadline.specs.declared.errand.Wanted.{Wanted}
 use Rattle.deadline.specs.declared.errand.Wanted.TheVariants.{Read, Write, Flush, Open}
 
@@ -16,6 +19,12 @@ pub record ErrandValue : Type 0 where
 pub record HasRead {B : Type 0} (claims : Bool) (contents : B → List (List ℕ)) (first : ℕ) (bytes : List ℕ) : Type 0 where
   pub device : B
   pub read : IsTrue claims → bytes ≡ range_bytes (contents device) first (length bytes / BLOCK_LENGTH)
+
+-- These blocks are what a device gave; or they were read beside it by a read that began when so many of its writes had come back, as many
+-- as have now. So none has come back since.
+abbrev pub WereGiven : {B : Type 0} → Bool → (B → List (List ℕ)) → Node → ℕ → ℕ → List ℕ → Type 0
+WereGiven claims contents disk first writes blocks =
+    HasRead claims contents first blocks ⊎ ((writes < last_count) × IsTrue (was_read disk first writes blocks))
 
 -- these bytes were written, from this block on
 pub record HasWritten {B : Type 0} (claims : Bool) (contents : B → List (List ℕ)) (first : ℕ) (bytes : List ℕ) : Type 0 where

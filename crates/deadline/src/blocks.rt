@@ -1,15 +1,15 @@
 //! A device whose calls have a deadline.
-ghost use Rattle.std.specs.Prelude.{◌≡◌, ◌<◌, ◌≤◌, ◌+◌, ◌^◌, true, [], false, min, length, IfOk, IsErr, IsTrue, OnOk, OnErr};
+ghost use Rattle.std.specs.Prelude.{◌≡◌, ◌<◌, ◌≤◌, ◌+◌, ◌^◌, true, [], false, min, length, IfOk, IfSome, IsErr, IsTrue, OnOk, OnErr};
 ghost use Rattle.std.proofs.Common.{arith};
 ghost use Rattle.block_file.specs.Cut.{IsRun};
 ghost use Rattle.block_file.specs.Failures.{Counts, last_count};
-ghost use Rattle.deadline.specs.Answers.{HasAnswered, HasFlushed, HasOpened, HasRead, HasWritten, HasWrittenSome};
+ghost use Rattle.deadline.specs.Answers.{HasAnswered, HasFlushed, HasOpened, HasRead, HasWritten, HasWrittenSome, WereGiven};
 
 use crate::errand::{Errand, Served, Wanted};
 use crate::hatch::Asker;
 use crate::watch::Watch;
 use block_file::{Blocks, DeviceFailed, Opener};
-use disk_preparer::{Node, OnDisk};
+use disk_preparer::{BlockMemory, Node, OnDisk};
 use event_log::Call;
 use std::alloc::Global;
 use std::io;
@@ -30,6 +30,8 @@ pub struct Deadlined<R: Wait + Clock + Drop, B: Blocks, O: Opener<B>> {
     pub(crate) opened: u64,
     failed_reads: u64,
     failed_writes: u64,
+    // How many writes have come back, or are waited for no more.
+    writes: u64,
     ghost fits: { count < 2 ^ 32 },
     ghost some: { 0 < count },
 }
@@ -44,6 +46,7 @@ impl<R: Wait + Clock + Drop, B: Blocks, O: Opener<B>> Drop for Deadlined<R, B, O
             opened: _,
             failed_reads: _,
             failed_writes: _,
+            writes: _,
         } = self;
     }
 }
@@ -79,6 +82,7 @@ impl<
             opened: 0,
             failed_reads: 0,
             failed_writes: 0,
+            writes: 0,
         })
     }
 }
@@ -101,6 +105,26 @@ fn read_by<R: Wait + Clock + Drop, B: Blocks, O: Opener<B>>(
     let is_read = answered.gives(wanted, bytes);
     asker.keep(answered);
     is_read
+}
+
+// Reads a run into memory that goes to the thread of the device and comes back.
+fn read_into_by<R: Wait + Clock + Drop, B: Blocks, O: Opener<B>>(
+    asker: &mut Asker<R, Errand<B, O>>,
+    first: u32,
+    bytes: Vec<u8>,
+) -> Option<Vec<u8>>
+    ensures read { IfSome result (λ blocks. HasRead B.claims B.contents first blocks.items) }
+    ensures many { IfSome result (λ blocks. length blocks.items ≡ length bytes.items) }
+{
+    let wanted = Wanted::Read(first);
+    let count = bytes.len();
+    let errand = asker.take()?;
+    let (errand, own) = errand.with_memory(wanted, bytes);
+    let answered = asker.ask(errand, Call::Read)?;
+    let is_read = answered.has_done_all(wanted, count);
+    let (kept, read) = answered.with_memory(Wanted::Flush, own);
+    asker.keep(kept);
+    if is_read { Some(read) } else { None }
 }
 
 // Writes a run, by the thread of the device.
@@ -231,10 +255,40 @@ impl<R: Wait + Clock + Drop, B: Blocks, O: Opener<B>> Blocks for Deadlined<R, B,
             (min (self.new.failed_reads + self.new.failed_writes) last_count) result }
         ensures failed_reads { Counts (min self.old.failed_reads last_count) (min self.new.failed_reads last_count) result }
         ensures failed_writes { self.new.failed_writes ≡ self.old.failed_writes }
+        ensures written { self.new.writes ≡ self.old.writes }
         ensures opened { (self.new.opened ≡ self.old.opened) × (self.new.node ≡ self.old.node) }
     {
         let is_read = read_by(self.asker.get_mut(), first, bytes);
         ended(is_read, &mut self.failed_reads)
+    }
+
+    // What was read beside the device is taken where all of its writes had come back before, and no call hangs.
+    fn read_into(&mut self, first: u32, memory: BlockMemory) -> Result<Vec<u8>, DeviceFailed>
+        requires { IsRun self.old.count first (length memory.bytes.items) }
+        ensures size { self.new.count ≡ self.old.count }
+        ensures many { IfOk result (λ blocks. length blocks.items ≡ length memory.bytes.items) }
+        ensures answered { IfOk result (λ blocks.
+            WereGiven B.claims B.contents self.old.node first self.new.writes blocks.items) }
+        ensures failures { Counts (min (self.old.failed_reads + self.old.failed_writes) last_count)
+            (min (self.new.failed_reads + self.new.failed_writes) last_count) result }
+        ensures failed_reads { Counts (min self.old.failed_reads last_count) (min self.new.failed_reads last_count) result }
+        ensures failed_writes { self.new.failed_writes ≡ self.old.failed_writes }
+        ensures written { self.new.writes ≡ self.old.writes }
+        ensures opened { (self.new.opened ≡ self.old.opened) × (self.new.node ≡ self.old.node) }
+    {
+        let writes = self.writes;
+        let asker = self.asker.get_mut();
+        let is_hung = asker.watch().is_hung();
+        if !is_hung && writes < u64::MAX && memory.holds(self.node, u64::from(first), writes) {
+            return Ok(memory.bytes);
+        }
+        match read_into_by(asker, first, memory.bytes) {
+            Some(blocks) => Ok(blocks),
+            None => {
+                self.failed_reads = self.failed_reads.saturating_add(1);
+                Err(DeviceFailed)
+            }
+        }
     }
 
     fn write_run(&mut self, first: u32, bytes: &[u8]) -> Result<(), DeviceFailed>
@@ -245,9 +299,13 @@ impl<R: Wait + Clock + Drop, B: Blocks, O: Opener<B>> Blocks for Deadlined<R, B,
             (min (self.new.failed_reads + self.new.failed_writes) last_count) result }
         ensures failed_reads { self.new.failed_reads ≡ self.old.failed_reads }
         ensures failed_writes { Counts (min self.old.failed_writes last_count) (min self.new.failed_writes last_count) result }
+        ensures written { self.new.writes ≡ min (self.old.writes + 1) last_count }
         ensures opened { (self.new.opened ≡ self.old.opened) × (self.new.node ≡ self.old.node) }
     {
-        let is_written = write_by(self.asker.get_mut(), first, bytes);
+        let asker = self.asker.get_mut();
+        let is_written = write_by(asker, first, bytes);
+        self.writes = self.writes.saturating_add(1);
+        asker.watch().wrote(self.writes);
         ended(is_written, &mut self.failed_writes)
     }
 
@@ -258,6 +316,7 @@ impl<R: Wait + Clock + Drop, B: Blocks, O: Opener<B>> Blocks for Deadlined<R, B,
             (min (self.new.failed_reads + self.new.failed_writes) last_count) result }
         ensures failed_reads { self.new.failed_reads ≡ self.old.failed_reads }
         ensures failed_writes { Counts (min self.old.failed_writes last_count) (min self.new.failed_writes last_count) result }
+        ensures written { self.new.writes ≡ self.old.writes }
         ensures opened { (self.new.opened ≡ self.old.opened) × (self.new.node ≡ self.old.node) }
     {
         let is_flushed = flush_by(self.asker.get_mut());

@@ -78,6 +78,19 @@ impl<B: Blocks, O: Opener<B>> Errand<B, O> {
         }
     }
 
+    /// Asks for this, with these bytes in place of its own, which it gives.
+    pub(crate) fn with_memory(self, wanted: Wanted, given: Vec<u8>) -> (Errand<B, O>, Vec<u8>)
+        ensures { result.1.items ≡ self.bytes }
+    {
+        let errand = Errand {
+            wanted,
+            bytes: given,
+            is_done: false,
+            of: PhantomData,
+        };
+        (errand, self.bytes)
+    }
+
     /// Whether this was wanted, and was done.
     pub(crate) fn has_done(&self, wanted: Wanted) -> bool
         ensures { IsTrue result

@@ -19,7 +19,7 @@ const STACK: usize = 256 * 1024;
 /// How often one who asked looks for the answer before it sleeps, and the thread for what is asked: some 20 and 80 microseconds.
 const FOR_ANSWERS: u32 = 10_000;
 
-const FOR_ERRANDS: u32 = 40_000;
+pub(crate) const FOR_ERRANDS: u32 = 40_000;
 
 /// After it has looked in vain so often in a row, a side sleeps at once so often, and then tries again.
 const IN_VAIN: u32 = 3;
@@ -200,8 +200,8 @@ impl<E: Drop> Hatch<E> {
     }
 
     // Runs what is asked, until nobody asks any more.
-    fn serve<R: Wait, W: Runner<E>>(&self, rt: &R, runner: &mut W) {
-        let mut looks = Looks::up_to(FOR_ERRANDS);
+    fn serve<R: Wait, W: Runner<E>>(&self, rt: &R, runner: &mut W, most: u32) {
+        let mut looks = Looks::up_to(most);
         for _ in rt.forever() {
             if !self.is_asked(rt, &mut looks) {
                 break;
@@ -249,6 +249,18 @@ impl<R: Threads + Wait + Clock + Clone + Drop + Send + 'static, E: Drop + Send +
         errand: E,
         watch: &Arc<Watch, Global>,
     ) -> io::Result<Asker<R, E>> {
+        Asker::start_looking(rt, alloc, runner, errand, watch, FOR_ERRANDS)
+    }
+
+    /// The same; the thread looks so often for what is asked before it sleeps.
+    pub(crate) fn start_looking<W: Runner<E> + Drop + Send + 'static>(
+        rt: &R,
+        alloc: Global,
+        runner: W,
+        errand: E,
+        watch: &Arc<Watch, Global>,
+        most: u32,
+    ) -> io::Result<Asker<R, E>> {
         let hatch = Hatch {
             turn: CachePadded::new(AtomicU64::new(ANSWERED)),
             errand: CachePadded::new(Mutex::new(None)),
@@ -258,7 +270,7 @@ impl<R: Threads + Wait + Clock + Clone + Drop + Send + 'static, E: Drop + Send +
         let watch = Arc::try_clone(watch)?;
         let (mine, other) = (rt.clone()?, rt.clone()?);
         let mut runner = runner;
-        let work = move || theirs.serve(&other, &mut runner);
+        let work = move || theirs.serve(&other, &mut runner, most);
         let _thread: JoinHandle<()> = Builder::new().stack_size(STACK).spawn(rt, work)?;
         Ok(Asker {
             rt: mine,
@@ -271,6 +283,11 @@ impl<R: Threads + Wait + Clock + Clone + Drop + Send + 'static, E: Drop + Send +
 }
 
 impl<R: Wait + Clock + Drop, E: Drop> Asker<R, E> {
+    /// What all share that ask calls of the file.
+    pub(crate) fn watch(&self) -> &Watch {
+        &self.watch
+    }
+
     /// Takes the errand in hand, to say what is asked. None: no call on the file is made any more.
     pub(crate) fn take(&mut self) -> Option<E>
         ensures { self.old.errand ≡ None → result ≡ None }

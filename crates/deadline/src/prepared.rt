@@ -1,10 +1,11 @@
 //! A preparer whose calls have a deadline.
-ghost use Rattle.std.specs.Prelude.{◌≡◌, true, IfOk, IsTrue};
+ghost use Rattle.std.specs.Prelude.{◌≡◌, true, IfOk, IfSome, IsTrue, length};
 ghost use Rattle.std.specs.Arc.{arc_value};
+ghost use Rattle.deadline.specs.Back.{had_come_back};
 
-use crate::hatch::{Asker, Runner};
+use crate::hatch::{Asker, FOR_ERRANDS, Runner};
 use crate::watch::Watch;
-use disk_preparer::{Node, Preparer};
+use disk_preparer::{Beside, BlockMemory, Node, Preparer};
 use event_log::Call;
 use std::alloc::Global;
 use std::io;
@@ -17,6 +18,10 @@ use std::time::Clock;
 /// So many calls that fetch blocks are made at a time, and so many flushes.
 const THREADS: usize = 16;
 
+/// So many bytes are read beside the device, and fewer only where somebody looks. The way to a thread and back is dearer than the wait
+/// for these under the lock.
+const MUCH: usize = 32768;
+
 /// What a preparer is asked.
 #[derive(Clone, Copy, PartialEq, Eq)]
 enum Wanted {
@@ -24,6 +29,7 @@ enum Wanted {
     AdviseEdges(u64, u16),
     Fetch(u64, u16),
     FetchEdges(u64, u16),
+    Read(u64, bool),
     Flush,
 }
 
@@ -34,6 +40,7 @@ struct Favor<P: Preparer> {
     // Whose flush it is.
     disk: Node,
     is_flushed: bool,
+    memory: Option<BlockMemory>,
     of: PhantomData<P>,
 }
 
@@ -55,6 +62,18 @@ impl<P: Preparer> Favor<P> {
             wanted,
             disk,
             is_flushed: false,
+            memory: None,
+            of: PhantomData,
+        }
+    }
+
+    // One that reads, into this memory.
+    fn reading(wanted: Wanted, disk: Node, bytes: Vec<u8>) -> Favor<P> {
+        Favor {
+            wanted,
+            disk,
+            is_flushed: false,
+            memory: Some(BlockMemory::fresh(bytes)),
             of: PhantomData,
         }
     }
@@ -86,6 +105,7 @@ impl<P: Preparer> Served<P> {
             Wanted::Fetch(first, blocks) => self.preparer.fetch(first, blocks),
             Wanted::FetchEdges(first, blocks) => self.preparer.fetch_edges(first, blocks),
             Wanted::Flush => return self.preparer.flush(),
+            Wanted::Read(..) => {}
         }
         false
     }
@@ -94,10 +114,17 @@ impl<P: Preparer> Served<P> {
 impl<P: Preparer> Runner<Favor<P>> for Served<P> {
     fn run(&mut self, favor: Favor<P>) -> Favor<P> {
         let wanted = favor.wanted;
+        let memory = match (wanted, favor.memory) {
+            (Wanted::Read(first, is_looked_at), Some(memory)) => {
+                self.preparer.read(first, memory.bytes, is_looked_at)
+            }
+            _ => None,
+        };
         Favor {
             wanted,
             disk: self.disk,
             is_flushed: self.does(wanted),
+            memory,
             of: PhantomData,
         }
     }
@@ -142,13 +169,18 @@ fn askers<
     requires { P.disk (arc_value preparer.now) ≡ disk }
 {
     let mut askers = Vec::with_capacity(alloc, THREADS)?;
-    for _ in 0..THREADS {
+    for number in 0..THREADS {
         let served = Served {
             preparer: Arc::try_clone(preparer)?,
             disk,
         };
         let favor = Favor::of(Wanted::Flush, disk);
-        askers.push(Mutex::new(Asker::start(rt, alloc, served, favor, watch)?))?;
+        let looks = if number == 0 {
+            FOR_ERRANDS
+        } else {
+            FOR_ERRANDS / 40
+        };
+        askers.push(Mutex::new(Asker::start_looking(rt, alloc, served, favor, watch, looks)?))?;
     }
     Ok(askers)
 }
@@ -230,6 +262,54 @@ impl<R: Wait + Clock + Drop, P: Preparer> DeadlinedPreparer<R, P> {
     }
 }
 
+// Has a thread read blocks of this disk beside its device. None: the memory is gone.
+fn read_by<R: Wait + Clock + Drop, P: Preparer>(
+    asker: &mut Asker<R, Favor<P>>,
+    wanted: Wanted,
+    bytes: Vec<u8>,
+    disk: Node,
+) -> Option<BlockMemory> {
+    let _favor = asker.take()?;
+    let answered = asker.ask(Favor::reading(wanted, disk, bytes), Call::Read)?;
+    let mut answered = answered;
+    let memory = answered.memory.take();
+    asker.keep(answered);
+    memory
+}
+
+// What was read beside the device, behind a look at how many of its writes had come back; what was not stays memory.
+#[tactic(auto, using(disk_preparer::specs::Beside::a_read_beside_says))]
+fn behind(memory: BlockMemory, beside: Beside) -> BlockMemory
+    requires { had_come_back beside.disk beside.writes }
+    ensures { result.bytes ≡ memory.bytes }
+{
+    match memory.beside {
+        Some(read) if read.disk.is(beside.disk) && read.first == beside.first => {
+            BlockMemory::read(memory.bytes, beside)
+        }
+        _ => BlockMemory::fresh(memory.bytes),
+    }
+}
+
+// Has a thread read blocks beside the device, behind such a look. None: the memory is gone.
+fn read_behind<R: Wait + Clock + Drop, P: Preparer>(
+    asker: &mut Asker<R, Favor<P>>,
+    beside: Beside,
+    bytes: Vec<u8>,
+    is_looked_at: bool,
+) -> Option<BlockMemory>
+    requires { had_come_back beside.disk beside.writes }
+    ensures { IfSome result (λ memory. length memory.bytes.items ≡ length bytes.items) }
+{
+    let count = bytes.len();
+    let wanted = Wanted::Read(beside.first, is_looked_at);
+    let memory = read_by(asker, wanted, bytes, beside.disk)?;
+    if memory.bytes.len() != count {
+        return None;
+    }
+    Some(behind(memory, beside))
+}
+
 impl<R: Wait + Clock + Drop, P: Preparer> Preparer for DeadlinedPreparer<R, P> {
     ghost may_flush = { P.may_flush };
 
@@ -265,6 +345,22 @@ impl<R: Wait + Clock + Drop, P: Preparer> Preparer for DeadlinedPreparer<R, P> {
 
     fn fetch_edges(&self, first: u64, blocks: u16) {
         self.ask_fetcher(Wanted::FetchEdges(first, blocks));
+    }
+
+    fn read(&self, first: u64, bytes: Vec<u8>, is_looked_at: bool) -> Option<BlockMemory> {
+        if !is_looked_at && bytes.len() < MUCH {
+            return Some(BlockMemory::fresh(bytes));
+        }
+        let Some(mut asker) = self.free(&self.fetchers) else {
+            return Some(BlockMemory::fresh(bytes));
+        };
+        let (disk, writes) = (self.node, self.watch.writes(self.node));
+        let beside = Beside {
+            disk,
+            first,
+            writes,
+        };
+        read_behind(&mut asker, beside, bytes, is_looked_at)
     }
 
     fn flushes(&self) -> bool {

@@ -1,7 +1,9 @@
 //! What all that ask calls of one file share.
+ghost use Rattle.deadline.specs.Back.{had_come_back};
 
+use disk_preparer::Node;
 use event_log::{Call, Event, Log, Part};
-use std::sync::atomic::{AtomicBool, Ordering};
+use std::sync::atomic::{AtomicBool, AtomicU64, Ordering};
 use std::time::Duration;
 
 /// How long a call of a file may take, and whether one took longer.
@@ -10,6 +12,8 @@ pub struct Watch {
     is_hung: AtomicBool,
     // Whether a call of late took so long that whoever asked slept.
     has_slept: AtomicBool,
+    // How many writes have come back.
+    writes: AtomicU64,
     log: Log,
     unit: u8,
     part: Part,
@@ -21,6 +25,7 @@ impl Drop for Watch {
             patience: _,
             is_hung: _,
             has_slept: _,
+            writes: _,
             log: _,
             unit: _,
             part: _,
@@ -35,6 +40,7 @@ impl Watch {
             patience,
             is_hung: AtomicBool::new(false),
             has_slept: AtomicBool::new(false),
+            writes: AtomicU64::new(0),
             log,
             unit,
             part,
@@ -49,6 +55,20 @@ impl Watch {
     /// Whether a call has taken longer.
     pub(crate) fn is_hung(&self) -> bool {
         self.is_hung.load(Ordering::Acquire)
+    }
+
+    /// How many writes of the device of this disk have come back.
+    #[tactic(auto, using(crate::specs::Back::a_look_says))]
+    pub(crate) fn writes(&self, disk: Node) -> u64
+        ensures { had_come_back disk result }
+    {
+        let _ = disk;
+        self.writes.load(Ordering::Acquire)
+    }
+
+    /// So many have.
+    pub(crate) fn wrote(&self, writes: u64) {
+        self.writes.store(writes, Ordering::Release);
     }
 
     /// A call takes so long that whoever asked sleeps.

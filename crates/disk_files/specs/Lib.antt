@@ -1,4 +1,5 @@
 pub mod Backing
+pub mod Beside
 pub mod BackingLaws
 pub mod Lasting
 pub mod Lengths

@@ -13,6 +13,8 @@ ghost use Rattle.disk_files.specs.Tally.{none, all_failures, once_more_opened};
 ghost use Rattle.disk_files.specs.Lasting.{IsSettled};
 ghost use Rattle.disk_files.specs.Lengths.{IsLengthFault};
 ghost use Rattle.disk_files.specs.Told.{has_told};
+ghost use Rattle.disk_files.specs.Beside.{WereRead};
+ghost use Rattle.disk_preparer.specs.Beside.{was_read};
 
 use crate::FileFault;
 use crate::backing::BackingFile;
@@ -22,7 +24,7 @@ use crate::system::SystemFile;
 use crate::tally::Tally;
 use crate::writes::Writes;
 use block_file::{BLOCK_LENGTH, Blocks, DeviceFailed};
-use disk_preparer::{Node, OnDisk};
+use disk_preparer::{BlockMemory, Node, OnDisk};
 use event_log::Call;
 use std::alloc::Global;
 use std::fs::File;
@@ -141,6 +143,17 @@ impl<F: BackingFile> FileBlocks<F> {
         ensures { result ≡ self.file }
     {
         self.file
+    }
+
+    // Whether memory holds the blocks from this one on, as they were read beside the device when each of its writes had ended. A count at
+    // its end says nothing more.
+    fn holds_now(&self, first: u32, memory: &BlockMemory) -> bool
+        ensures behind { IsTrue result → self.now.writes.count < last_count }
+        ensures read { IsTrue result
+            → IsTrue (was_read (F.node self.now.file) first self.now.writes.count memory.now.bytes.items) }
+    {
+        let writes = self.writes.count;
+        writes < u64::MAX && memory.holds(self.file.node(), u64::from(first), writes)
     }
 
     // Whether a flush beside the device has failed.
@@ -314,6 +327,32 @@ impl<F: BackingFile> Blocks for FileBlocks<F> {
                 failed(&mut self.tally.failed_reads)
             }
         }
+    }
+
+    // What was read beside the device is what a read of its own would give, where all of its writes had ended before.
+    fn read_into(&mut self, first: u32, memory: BlockMemory) -> Result<Vec<u8>, DeviceFailed>
+        requires { IsRun self.old.count first (length memory.bytes.items) }
+        ensures size { self.new.count ≡ self.old.count }
+        ensures file { self.new.file ≡ self.old.file }
+        ensures flushes { self.new.flushes ≡ self.old.flushes }
+        ensures many { IfOk result (λ blocks. length blocks.items ≡ length memory.bytes.items) }
+        ensures said { IfOk result (λ blocks.
+            WereRead F.has_read (F.node self.old.file) first self.new.writes.count blocks.items) }
+        ensures read { IsTrue F.claims → IfOk result (λ blocks. blocks.items
+            ≡ range_bytes (run_of (F.bytes self.old.file)) first (length memory.bytes.items / BLOCK_LENGTH)) }
+        ensures failures { Counts (all_failures self.old.tally) (all_failures self.new.tally) result }
+        ensures failed_reads { Counts (min self.old.tally.failed_reads last_count) (min self.new.tally.failed_reads last_count)
+            result }
+        ensures failed_writes { self.new.tally.failed_writes ≡ self.old.tally.failed_writes }
+        ensures lost { self.new.tally.is_lost ≡ self.old.tally.is_lost }
+        ensures written { self.new.writes.count ≡ self.old.writes.count }
+    {
+        if self.flushes.is_some() && self.holds_now(first, &memory) {
+            return Ok(memory.bytes);
+        }
+        let mut bytes = memory.bytes;
+        self.read_run(first, bytes.as_mut_slice())?;
+        Ok(bytes)
     }
 
     fn write_run(&mut self, first: u32, bytes: &[u8]) -> Result<(), DeviceFailed>

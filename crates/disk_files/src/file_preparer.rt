@@ -1,7 +1,10 @@
 //! A file made ready for the calls of its device.
-ghost use Rattle.std.specs.Prelude.{◌≡◌, true, IfSome, IsSomeAnd};
+ghost use Rattle.std.specs.Prelude.{◌≡◌, ◌*◌, true, length, IfSome, IsSomeAnd};
+ghost use Rattle.std.proofs.Props.{props};
 ghost use Rattle.std.specs.Arc.{arc_value};
-ghost use Rattle.disk_files.specs.Told.{HasFlushed};
+ghost use Rattle.block_file.specs.declared.blocks.TheConstants.{BLOCK_LENGTH};
+ghost use Rattle.disk_files.specs.System.{has_read};
+ghost use Rattle.disk_files.specs.Told.{HasFlushed, were_told};
 
 use crate::FileBlocks;
 use crate::backing::BackingFile;
@@ -9,7 +12,7 @@ use crate::file_log::FileLog;
 use crate::flushes::{FlushFault, Flushes, LastingFile};
 use crate::system::SystemFile;
 use block_file::BLOCK_LENGTH;
-use disk_preparer::{Node, Preparer};
+use disk_preparer::{Beside, BlockMemory, Node, Preparer};
 use event_log::Call;
 use libc::{POSIX_FADV_WILLNEED, posix_fadvise};
 use std::alloc::Global;
@@ -71,6 +74,9 @@ pub struct FilePreparer<R: Clock + Wait + Drop, F: LastingFile> {
     flushes: Option<Arc<Flushes<F>, Global>>,
     // For how many reads more the disk counts as slow; below IN_A_ROW how many slow ones in a row were looked at.
     slow: AtomicU64,
+    // The serial of the WRITE that came last, of whatever session.
+    last: AtomicU64,
+    ghost own: { IfSome file (λ f. f.node ≡ node) } by { Prim.hlevel props },
 }
 
 impl<R: Clock + Wait + Drop, F: LastingFile + Drop> Drop for FilePreparer<R, F> {
@@ -82,6 +88,7 @@ impl<R: Clock + Wait + Drop, F: LastingFile + Drop> Drop for FilePreparer<R, F> 
             file_log: _,
             flushes: _,
             slow: _,
+            last: _,
         } = self;
     }
 }
@@ -111,6 +118,7 @@ impl<R: Clock + Wait + Files<File = File> + Drop> FilePreparer<R, SystemFile> {
             file_log,
             flushes,
             slow: AtomicU64::new(0),
+            last: AtomicU64::new(0),
         }
     }
 }
@@ -187,17 +195,52 @@ impl<R: Clock + Wait + Drop, F: LastingFile> FilePreparer<R, F> {
         }
     }
 
-    // Reads some bytes of the file, and looks how long that takes.
-    fn measure_read(&self, file: &File, at: u64, length: usize) {
-        let Ok(begun) = self.rt.monotonic() else {
-            return;
-        };
-        read_away(file, at, length);
+    // A read of so many bytes began then, and is done.
+    fn took(&self, begun: Duration, length: usize) {
         let Ok(ended) = self.rt.monotonic() else {
             return;
         };
         let slow = SLOW + (length / FOR_BYTES) as u64;
         self.count(ended.saturating_sub(begun) >= Duration::from_micros(slow));
+    }
+
+    // Reads some bytes of the file, and looks how long that takes.
+    fn measure_read(&self, file: &File, at: u64, length: usize) {
+        if let Ok(begun) = self.rt.monotonic() {
+            read_away(file, at, length);
+            self.took(begun, length);
+        }
+    }
+
+    // Waits until the disk has so many bytes from this block on; of a disk that counts as fast it looks at the first ones.
+    fn fetch_bytes(&self, first: u64, length: usize) {
+        if let (Some(file), Some(at)) = (&self.file, first.checked_mul(BLOCK_LENGTH as u64)) {
+            let length = if self.is_slow() {
+                length
+            } else {
+                length.min(LEAST)
+            };
+            self.measure_read(file.handle(), at, length);
+        }
+    }
+
+    // Reads blocks of the file, side by side where the disk counts as slow; where that cannot be done the memory holds nothing.
+    fn read_now(&self, flushes: &Flushes<F>, first: u64, bytes: Vec<u8>) -> BlockMemory
+        ensures { length result.bytes.items ≡ length bytes.items }
+    {
+        let (Some(file), Some(at)) = (&self.file, first.checked_mul(BLOCK_LENGTH as u64)) else {
+            return BlockMemory::fresh(bytes);
+        };
+        if self.is_slow() {
+            ask(file.handle(), at, bytes.len());
+        }
+        let (disk, writes) = (self.node, flushes.look(self.node));
+        let beside = Beside {
+            disk,
+            first,
+            writes,
+        };
+        read_behind(file, at, beside, bytes)
     }
 }
 
@@ -259,6 +302,30 @@ fn edges_of(first: u64, blocks: u16) -> (Option<u64>, Option<u64>) {
     (head, tail)
 }
 
+// What was read of a file, behind a look at how many writes its device had told.
+#[tactic(auto, using(disk_preparer::specs::Beside::a_read_beside_says))]
+fn read_beside(bytes: Vec<u8>, beside: Beside) -> BlockMemory
+    requires told { were_told beside.disk beside.writes }
+    requires read { has_read beside.disk (BLOCK_LENGTH * beside.first) bytes.items }
+    ensures { result.bytes ≡ bytes }
+{
+    BlockMemory::read(bytes, beside)
+}
+
+// Reads blocks from this offset on, behind such a look; where that fails the memory holds nothing.
+fn read_behind(file: &SystemFile, at: u64, beside: Beside, bytes: Vec<u8>) -> BlockMemory
+    requires file { file.now.node ≡ beside.disk }
+    requires place { at ≡ BLOCK_LENGTH * beside.first }
+    requires told { were_told beside.disk beside.writes }
+    ensures { length result.bytes.items ≡ length bytes.items }
+{
+    let mut bytes = bytes;
+    match file.read_at(bytes.as_mut_slice(), at) {
+        Ok(()) => read_beside(bytes, beside),
+        Err(_) => BlockMemory::fresh(bytes),
+    }
+}
+
 impl<R: Clock + Wait + Drop, F: LastingFile> Preparer for FilePreparer<R, F> {
     ghost may_flush = { true };
 
@@ -293,16 +360,19 @@ impl<R: Clock + Wait + Drop, F: LastingFile> Preparer for FilePreparer<R, F> {
         self.is_slow() || serial % LOOKED_AT == 0
     }
 
-    // A disk that counts as fast is looked at by the first bytes.
-    fn fetch(&self, first: u64, blocks: u16) {
-        if let (Some(file), Some((at, length))) = (&self.file, place_of(first, blocks)) {
-            let length = if self.is_slow() {
-                length
-            } else {
-                length.min(LEAST)
-            };
-            self.measure_read(file.handle(), at, length);
+    // A session that is alone has serials one behind the other.
+    fn touch(&self, serial: u64, first: u64, blocks: u16) {
+        let before = self.last.swap(serial, Ordering::Relaxed);
+        if before.wrapping_add(1) == serial || u64::from(blocks) > PAGE {
+            return;
         }
+        if let (Some(file), Some((at, length))) = (&self.file, place_of(first, blocks)) {
+            read_away(file.handle(), at, length);
+        }
+    }
+
+    fn fetch(&self, first: u64, blocks: u16) {
+        self.fetch_bytes(first, BLOCK_LENGTH * usize::from(blocks));
     }
 
     fn fetch_edges(&self, first: u64, blocks: u16) {
@@ -313,6 +383,27 @@ impl<R: Clock + Wait + Drop, F: LastingFile> Preparer for FilePreparer<R, F> {
         if let Some(tail) = tail {
             self.fetch(tail, 1);
         }
+    }
+
+    // Without flushes it has nobody to ask how many writes have ended, so it only fetches.
+    fn read(&self, first: u64, bytes: Vec<u8>, is_looked_at: bool) -> Option<BlockMemory> {
+        let Some(flushes) = &self.flushes else {
+            if is_looked_at {
+                self.fetch_bytes(first, bytes.len());
+            }
+            return Some(BlockMemory::fresh(bytes));
+        };
+        let length = bytes.len();
+        let begun = if is_looked_at {
+            self.rt.monotonic().ok()
+        } else {
+            None
+        };
+        let memory = self.read_now(flushes, first, bytes);
+        if let Some(begun) = begun {
+            self.took(begun, length);
+        }
+        Some(memory)
     }
 
     fn flushes(&self) -> bool {
