@@ -3,7 +3,7 @@ ghost use Rattle.std.specs.Prelude.{◌≡◌, IfOk};
 
 use crate::units::{LogicalUnits, Pass, Unserved};
 use array_units::Units;
-use block_file::{Blocks, Opener};
+use block_file::{Blocks, Opener, Room};
 use forwarding::Desk;
 use scsi_types::{Asked, Group, NoMemory, PortName, Reply};
 use std::alloc::Global;
@@ -131,14 +131,14 @@ impl<B: Blocks, F: Blocks, O: Opener<B>, N: Array<Opened>> LogicalUnits<
     fn serve<W: Wait>(
         &self,
         rt: &W,
-        alloc: Global,
+        room: Room,
         pass: UnitPass<B, F, O, N>,
         by_group: Group,
         asked: &Asked,
         bytes: &[u8],
     ) -> (UnitPass<B, F, O, N>, Result<Reply, Unserved>) {
         let desk = self.desk(by_group);
-        match desk.serve(rt, alloc, &self.units, pass, asked, bytes) {
+        match desk.serve(rt, room, &self.units, pass, asked, bytes) {
             (pass, Ok(Ok(reply))) => (pass, Ok(reply)),
             (pass, Ok(Err(why))) => (pass, Err(Unserved::ByUnit(why))),
             (pass, Err(fault)) => {

@@ -1,6 +1,7 @@
 //! What all sessions of an array share.
 
 use crate::live::Table;
+use crate::memory::Spares;
 use std::alloc::Global;
 use std::sync::Mutex;
 
@@ -22,6 +23,8 @@ pub struct TargetDevice<U: Drop, G: Drop, S: Drop> {
     /// Held while a normal session is attached to the units and enters the table: so of two of one nexus the later one is the
     /// later one at each unit and in the table.
     pub beginning: Mutex<Turn>,
+    /// The memory of replies that were sent.
+    pub(crate) spares: Spares,
 }
 
 impl<U: Drop, G: Drop, C: Drop> TargetDevice<U, G, Mutex<Table<C>>> {
@@ -36,6 +39,7 @@ impl<U: Drop, G: Drop, C: Drop> TargetDevice<U, G, Mutex<Table<C>>> {
             gate,
             sessions: Mutex::new(Table::new(alloc)),
             beginning: Mutex::new(Turn { only: () }),
+            spares: Spares::none(alloc),
         }
     }
 }

@@ -5,6 +5,7 @@ ghost use Rattle.unit_lock.specs.Calls.{PlacedPass};
 ghost use Rattle.unit_control.specs.Entry.{Entry};
 
 use crate::units::Pass;
+use block_file::Room;
 use disk_preparer::Preparer;
 use scsi_types::{Asked, Command};
 use std::marker::{Brand, Model, PhantomData};
@@ -18,8 +19,15 @@ pub trait Gate {
     /// A flush is done that began when a session's pass was this. Nothing but a call of `flush_behind` says so.
     ghost lasts: { PlacedPass Entry → Type 0 };
 
-    /// The command with this serial of a session is about to be submitted to the unit at this place: what it needs is fetched first.
+    /// The command with this serial of a session is about to be submitted to the unit at this place: what it needs is fetched first,
+    /// unless it is read by `read`.
     fn fetch(&self, unit: usize, serial: u64, asked: &Asked);
+
+    /// The same for a READ: its blocks are read beside the unit, into the memory that is ready in this room, where that can be done. The
+    /// unit takes them if no write has ended since, and else reads them once more.
+    fn read(&self, _unit: usize, _serial: u64, _asked: &Asked, room: Room) -> Room {
+        room
+    }
 
     /// Whether it has a use for commands that wait to be served.
     fn wants_prefetch(&self) -> bool {
@@ -90,14 +98,40 @@ impl<P: Preparer, N: Disks> Gate for Prepared<P, N> {
         let Some(preparer) = self.of.get(unit) else {
             return;
         };
+        if let Ok(Command::Write { lba, blocks, .. }) = asked {
+            preparer.touch(serial, *lba, *blocks);
+        }
         if !preparer.wants(serial) {
             return;
         }
         match asked {
+            Ok(Command::Read { fua: false, .. }) => {}
             Ok(Command::Read { lba, blocks, .. }) => preparer.fetch(*lba, *blocks),
             Ok(Command::Write { lba, blocks, .. }) => preparer.fetch_edges(*lba, *blocks),
             Ok(Command::CompareAndWrite { lba, blocks, .. }) => preparer.fetch(*lba, *blocks),
             _ => {}
+        }
+    }
+
+    // With FUA the blocks come from the medium: these the unit alone reads. Where no memory is ready, they are only fetched.
+    fn read(&self, unit: usize, serial: u64, asked: &Asked, room: Room) -> Room {
+        let (lba, blocks) = match asked {
+            Ok(Command::Read { lba, blocks, fua }) if !*fua => (*lba, *blocks),
+            _ => return room,
+        };
+        let Some(preparer) = self.of.get(unit) else {
+            return room;
+        };
+        let (alloc, is_wanted) = (room.alloc(), preparer.wants(serial));
+        let Some(ready) = room.into_ready() else {
+            if is_wanted {
+                preparer.fetch(lba, blocks);
+            }
+            return Room::new(alloc);
+        };
+        match preparer.read(lba, ready.bytes, is_wanted) {
+            Some(memory) => Room::with(alloc, memory),
+            None => Room::new(alloc),
         }
     }
 

@@ -323,6 +323,10 @@ impl<
         answer
     }
 
+    fn reuse(&mut self, answer: TargetAnswer) {
+        self.target.reuse(answer);
+    }
+
     fn reset(&mut self, unit: u8) -> ResetAnswer {
         let answer = self.target.reset(unit);
         if answer == ResetAnswer::Done {

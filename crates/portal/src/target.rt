@@ -80,6 +80,8 @@ pub struct SessionTarget<
     rt: &'a R,
     alloc: Global,
     device: &'a TargetDevice<U, G, S>,
+    // Where the memory of its replies is kept.
+    place: usize,
     // The group of the portals by which the initiator came.
     group: Group,
     // What the session runs over, until it is asked to begin.
@@ -344,6 +346,7 @@ impl<
             rt,
             alloc,
             device,
+            place: device.spares.place(),
             group,
             connection: Some(connection),
             number: None,
@@ -460,14 +463,8 @@ impl<
             return TargetAnswer::Gone;
         };
         let device = self.device;
-        at.serve(
-            self.rt,
-            self.alloc,
-            &device.units,
-            &device.gate,
-            asked,
-            bytes,
-        )
+        let room = device.spares.room_for(self.place, self.alloc, asked);
+        at.serve(self.rt, room, &device.units, &device.gate, asked, bytes)
     }
 
     // Resets a unit that is there.
@@ -538,6 +535,12 @@ impl<
         match unit {
             Some(unit) if unit < self.device.units.count() => { self.serve_at(unit, &asked, bytes) }
             _ => turn_away(self.alloc, &asked),
+        }
+    }
+
+    fn reuse(&mut self, answer: TargetAnswer) {
+        if let TargetAnswer::Replied(reply) = answer {
+            self.device.spares.keep(self.place, reply.into_bytes());
         }
     }
 

@@ -6,11 +6,11 @@ ghost use Rattle.portal.specs.Submitted.{IsCalled, IsOnce, IsServed, IsResetAnsw
 use crate::gate::Gate;
 use crate::late::answer_behind_flush;
 use crate::units::{LogicalUnits, Pass, Unserved};
+use block_file::Room;
 use forwarding::DeskFault;
 use late_flushes::without_flush;
 use scsi_types::{Asked, Group, Reply};
 use session::{ResetAnswer, TargetAnswer};
-use std::alloc::Global;
 use std::marker::Model;
 use std::mem;
 use std::sync::Wait;
@@ -75,7 +75,7 @@ fn believed_behind(by_group: Group, end: &Result<Reply, Unserved>) -> Group
 // Submits a command as it was asked; or without its flush, where that is left to the gate, and comes behind it.
 fn call<R: Wait, U: LogicalUnits<P, H>, P: Pass, H: Drop, G: Gate>(
     rt: &R,
-    alloc: Global,
+    room: Room,
     units: &U,
     gate: &G,
     pass: P,
@@ -87,12 +87,13 @@ fn call<R: Wait, U: LogicalUnits<P, H>, P: Pass, H: Drop, G: Gate>(
     ensures place { (P.held result.0).place ≡ (P.held pass).place }
     ensures end { IsCalled U.claims (late_of G.is_late G.lasts) U.opening (P.held pass) by_group asked.now bytes.now result.1 (P.held result.0) }
 {
+    let alloc = room.alloc();
     let unflushed = without_flush(asked);
     let (served, is_late) = match &unflushed {
         Some(served) if gate.flushes_behind(pass.place()) => (served, true),
         _ => (asked, false),
     };
-    let (pass, end) = units.serve(rt, alloc, pass, by_group, served, bytes);
+    let (pass, end) = units.serve(rt, room, pass, by_group, served, bytes);
     if !is_late {
         return (pass, end);
     }
@@ -133,7 +134,7 @@ impl<P: Pass> UnitSession<P> {
     fn submit<R: Wait, U: LogicalUnits<P, H>, H: Drop, G: Gate>(
         &mut self,
         rt: &R,
-        alloc: Global,
+        room: Room,
         units: &U,
         gate: &G,
         asked: &Asked,
@@ -145,9 +146,11 @@ impl<P: Pass> UnitSession<P> {
         let Some(pass) = self.pass.take() else {
             unreachable!()
         };
-        gate.fetch(pass.place(), pass.next_serial(), asked);
+        let serial = pass.next_serial();
+        gate.fetch(pass.place(), serial, asked);
+        let room = gate.read(pass.place(), serial, asked, room);
         let by_group = self.by_group;
-        let (pass, end) = call(rt, alloc, units, gate, pass, by_group, asked, bytes);
+        let (pass, end) = call(rt, room, units, gate, pass, by_group, asked, bytes);
         put_back(&mut self.pass, pass);
         self.by_group = believed_behind(by_group, &end);
         end
@@ -157,7 +160,7 @@ impl<P: Pass> UnitSession<P> {
     pub fn serve<R: Wait, U: LogicalUnits<P, H>, H: Drop, G: Gate>(
         &mut self,
         rt: &R,
-        alloc: Global,
+        room: Room,
         units: &U,
         gate: &G,
         asked: &Asked,
@@ -166,9 +169,10 @@ impl<P: Pass> UnitSession<P> {
         requires { self.old.place < U.unit_count units.now }
         ensures { IsServed U.claims (late_of G.is_late G.lasts) U.opening self.old asked.now bytes.now result self.new }
     {
-        match self.submit(rt, alloc, units, gate, asked, bytes) {
+        let alloc = room.alloc();
+        match self.submit(rt, room, units, gate, asked, bytes) {
             Err(Unserved::ByUnit(Refused::Moved(_))) => {
-                answered(self.submit(rt, alloc, units, gate, asked, bytes))
+                answered(self.submit(rt, Room::new(alloc), units, gate, asked, bytes))
             }
             end => answered(end),
         }

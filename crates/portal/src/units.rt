@@ -8,9 +8,9 @@ ghost use Rattle.unit_control.specs.Entry.{Entry};
 ghost use Rattle.unit_history.specs.Calls.{HasAttached, HasNoRoom};
 ghost use Rattle.portal.specs.Units.{Claims, IsSubmitted, IsResetBy, IsRetired};
 
+use block_file::Room;
 use forwarding::DeskFault;
 use scsi_types::{Asked, Group, PortName, Reply};
-use std::alloc::Global;
 use std::sync::Wait;
 use unit_history::Refused;
 
@@ -74,7 +74,7 @@ pub trait LogicalUnits<P: Pass, H: Drop> {
     fn serve<R: Wait>(
         &self,
         rt: &R,
-        alloc: Global,
+        room: Room,
         pass: P,
         by_group: Group,
         asked: &Asked,

@@ -76,6 +76,13 @@ impl Reply {
         self.sense
     }
 
+    /// The memory of its data.
+    pub fn into_bytes(self) -> Vec<u8>
+        ensures { result.items ≡ self.bytes }
+    {
+        self.bytes
+    }
+
     /// The data for the initiator, which is empty without GOOD.
     pub fn bytes(&self) -> &[u8]
         ensures { result.now ≡ self.now.bytes }

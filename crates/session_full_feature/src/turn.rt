@@ -48,7 +48,9 @@ pub fn feature_turn<K: Sink, T: Target>(
                 let sending = session.on_answer(&call.task, &answer);
                 outbox.fill(sink, bhs, &sending.pdus);
                 session.keep(call.bytes);
-                sending.end_behind(bhs)
+                let end = sending.end_behind(bhs);
+                target.reuse(answer);
+                end
             }
             Call::Reset(call) => {
                 let answer = target.reset(call.unit);

@@ -78,6 +78,11 @@ pub trait Target {
     fn serve(&mut self, unit: Option<u8>, asked: Asked, bytes: &[u8]) -> TargetAnswer
         ensures { leads self.old (served unit asked bytes.now result) self.new };
 
+    /// Gets an answer back that was put into the outbox: its memory may serve for another one.
+    fn reuse(&mut self, _answer: TargetAnswer)
+        ensures { self.new ≡ self.old }
+    {}
+
     /// Resets a unit: its other sessions are told so (SAM-5, 7.7).
     fn reset(&mut self, unit: u8) -> ResetAnswer
         ensures { leads self.old (reset unit result) self.new };

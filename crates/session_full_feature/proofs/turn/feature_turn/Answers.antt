@@ -31,9 +31,9 @@ returns-in-Serve-clause-turn g c =
         next_is = c.keep.ensures ∙ k.next_is;
       },
     )
-    (subst (λ (b : List ℕ). g.T.Target.leads c.args.target.now
-    (served call.unit call.asked b c.serve-answer.result) c.serve-answer.new.self) c.bytes.ensures c.serve-answer.ensures)
-    c.fill-in-Serve.ensures.queued (c.end_behind-in-Serve.ensures ∙ ap (end_of c.args.bhs.now) k.step_is)
+    (rw c.reuse.ensures (subst (λ (b : List ℕ). g.T.Target.leads c.args.target.now
+    (served call.unit call.asked b c.serve-answer.result) c.serve-answer.new.self) c.bytes.ensures c.serve-answer.ensures))
+    c.fill-in-Serve.ensures.queued (c.end_behind-end.ensures ∙ ap (end_of c.args.bhs.now) k.step_is)
 
 pub returns-in-Reset-clause-turn : goal.returns-in-Reset-clause-turn
 returns-in-Reset-clause-turn g c =
