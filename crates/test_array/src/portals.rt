@@ -2,6 +2,7 @@
 //! script of what the initiators do and are answered.
 mod at;
 mod behind;
+mod beside;
 mod clients;
 mod discovery;
 mod doors;

@@ -3,7 +3,7 @@ ghost use Rattle.std.specs.Prelude.{[], true};
 ghost use Rattle.portal.specs.Disks.{no_file};
 
 use crate::ends::must;
-use disk_preparer::Preparer;
+use disk_preparer::{BlockMemory, Preparer};
 use portal::{Disks, Gate, Pass, Prepared};
 use scsi_types::{Asked, Command};
 use std::alloc::Global;
@@ -51,6 +51,10 @@ impl Preparer for Counted {
 
     fn fetch_edges(&self, _first: u64, _blocks: u16) {}
 
+    fn read(&self, _first: u64, bytes: Vec<u8>, _is_looked_at: bool) -> Option<BlockMemory> {
+        Some(BlockMemory::fresh(bytes))
+    }
+
     fn flushes(&self) -> bool {
         self.flushes
     }
@@ -63,7 +67,7 @@ impl Preparer for Counted {
 
 /// Disks whose files have no name.
 #[derive(Drop)]
-struct Nameless;
+pub struct Nameless;
 
 impl Disks for Nameless {
     ghost disk = { λ place. no_file };
@@ -113,10 +117,11 @@ fn disks(alloc: Global) -> Result<(Vec<Counted>, Vec<Arc<Counts, Global>>), Fail
 fn each_unit_has_its_own_disk_made_ready_and_flushed(rt: HostRuntime) -> Result<(), Fail> {
     let (of, seen) = disks(rt.alloc())?;
     let gate = Prepared::<Counted, Nameless>::new(of);
+    // One that comes from the medium; any other is read beside its unit (`Gate::read`).
     let read: Asked = Ok(Command::Read {
         lba: 0,
         blocks: 1,
-        fua: false,
+        fua: true,
     });
     for (unit, (settles, is_done)) in &[
         (0, (true, true)),

@@ -4,7 +4,7 @@ ghost use Rattle.unit_history.specs.Naming.{IsNamedAt};
 
 use crate::controllers::any_array::want;
 use crate::memory::{Opens, new_unit};
-use block_file::{Blocks, FusedOpener, KeepOpener, MemBlocks, Opener};
+use block_file::{Blocks, FusedOpener, KeepOpener, MemBlocks, Opener, Room};
 use scsi_types::{Command, Group, PortName};
 use status::MOST_SEATS;
 use std::alloc::Global;
@@ -74,9 +74,14 @@ impl<W: Wait + Drop, B: Blocks, F: Blocks, O: Opener<B>, N: Naming<Opened>> Shar
             return false;
         }
         let asked = Ok(Command::TestUnitReady);
-        let (pass, end) = self
-            .unit
-            .serve(&self.rt, pass, self.alloc, &Group::One, &asked, &[]);
+        let (pass, end) = self.unit.serve(
+            &self.rt,
+            pass,
+            Room::new(self.alloc),
+            &Group::One,
+            &asked,
+            &[],
+        );
         session.pass = Some(pass);
         end.is_ok()
     }
