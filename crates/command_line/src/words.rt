@@ -1,6 +1,7 @@
 //! The command line.
 
-ghost use Rattle.std.specs.Prelude.{◌≡◌, ◌≤◌, ◌↔◌, ℕ, IfOk, IsTrue, MatchOption, Some, [], codes, false, length, map, option_map, pos, true};
+ghost use Rattle.std.specs.Prelude.{◌≡◌, ◌≤◌, ◌↔◌, ℕ, IfOk, IsTrue, MatchOption, Some, [], codes, false, length, map, option_map, pos};
+ghost use Rattle.std.specs.Prelude.{true};
 ghost use Rattle.std.specs.String.{string_bytes};
 ghost use Rattle.command_line.specs.declared.words.WordsFault.TheVariants.{NoMemory};
 ghost use Rattle.command_line.specs.Words.{AreRestIn, Asks, Gives, IsCount, IsName, IsNumberIn, Meaning, arrayd, flag_lem};

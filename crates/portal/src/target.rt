@@ -3,7 +3,8 @@ ghost use Rattle.std.specs.Prelude.{◌≡◌, ◌+◌, ◌<◌, ◌≤◌, ◌�
 ghost use Rattle.std.specs.Prelude.{length, map, vec_capacity};
 ghost use Rattle.registrants.specs.Nexus.{through};
 ghost use Rattle.scsi_types.specs.Nexus.{IsPortName};
-ghost use Rattle.portal.specs.Target.{IsAbsent, IsAttachedTo, IsFullAt, IsGrounded, IsJoined, IsOfUnits, IsOverAt, IsTurnedBack, IsUnnamed, Leaves};
+ghost use Rattle.portal.specs.Target.{IsAbsent, IsAttachedTo, IsFullAt, IsGrounded, IsJoined, IsOfUnits, IsOverAt, IsTurnedBack};
+ghost use Rattle.portal.specs.Target.{IsUnnamed, Leaves};
 ghost use Rattle.portal.specs.Late.{late_of};
 ghost use Rattle.portal.specs.Target.{HasTried, IsServedAt, IsResetIn, unbegun};
 ghost use Rattle.portal.specs.declared.target.BeginFault.TheVariants as faults;

@@ -85,7 +85,8 @@ fn call<R: Wait, U: LogicalUnits<P, H>, P: Pass, H: Drop, G: Gate>(
 ) -> (P, Result<Reply, Unserved>)
     requires { (P.held pass).place < U.unit_count units.now }
     ensures place { (P.held result.0).place ≡ (P.held pass).place }
-    ensures end { IsCalled U.claims (late_of G.is_late G.lasts) U.opening (P.held pass) by_group asked.now bytes.now result.1 (P.held result.0) }
+    ensures end { IsCalled U.claims (late_of G.is_late G.lasts) U.opening (P.held pass)
+        by_group asked.now bytes.now result.1 (P.held result.0) }
 {
     let alloc = room.alloc();
     let unflushed = without_flush(asked);

@@ -23,8 +23,8 @@ use std::time::Clock;
 /// Serves a session that comes by the portals of a group over a connection, from the first byte of its login to its end.
 /// Refused for want of memory, it has read and written nothing. It says how the session ended, and whose it was, and hands
 /// out what was seen of each unit as the session left it, or was refused there: of what several sessions have so seen of a unit, one
-/// history begins the other (`LogicalUnits::in_one_history`). Of what happens meanwhile the log is told, and commands are counted. The connection has to end
-/// where its initiator is silent before its login is over.
+/// history begins the other (`LogicalUnits::in_one_history`). Of what happens meanwhile the log is told, and commands are counted. The
+/// connection has to end where its initiator is silent before its login is over.
 pub fn serve_session<
     R: Wait + Clock,
     U: LogicalUnits<P, H> + Drop,
@@ -47,8 +47,8 @@ pub fn serve_session<
     observer: &Observer<'_, R>,
 ) -> Result<(End, Visitor, Vec<H>), NoMemory>
     requires silence { C.is_limited connection login_silence }
-    ensures served { IfOk result (λ r. IsSession U.claims T.says (late_of G.is_late G.lasts) U.opening (U.unit_count device.now.units) group me.now
-        (S.left source.old) (S.left source.new) (K.held sink.old) (K.held sink.new) r.0 (map U.seen r.2.items)) }
+    ensures served { IfOk result (λ r. IsSession U.claims T.says (late_of G.is_late G.lasts) U.opening (U.unit_count device.now.units)
+        group me.now (S.left source.old) (S.left source.new) (K.held sink.old) (K.held sink.new) r.0 (map U.seen r.2.items)) }
     ensures input_failed { IfOk result (λ r. IsFailureOf InputFailed (S.failures source.old) (S.failures source.new) r.0) }
     ensures output_failed { IfOk result (λ r. IsFailureOf OutputFailed (K.failures sink.old) (K.failures sink.new) r.0) }
     ensures no_memory { OnErr result ((source.new ≡ source.old) × (sink.new ≡ sink.old)) }

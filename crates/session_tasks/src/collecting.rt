@@ -1,5 +1,6 @@
 //! The commands that wait for their data (RFC 7143, 11.7 and 11.8).
-ghost use Rattle.std.specs.Prelude.{◌≡◌, ◌<◌, ◌≤◌, ◌+◌, ◌++◌, ℕ, ◌∷◌, ◌↔◌, List, [], length, take, nat_le, nat_lt, not, vec_capacity, IsTrue, IfOk, IfSome, MatchOption, Result, Some, None};
+ghost use Rattle.std.specs.Prelude.{◌≡◌, ◌<◌, ◌≤◌, ◌+◌, ◌++◌, ℕ, ◌∷◌, ◌↔◌, List, [], length, take, nat_le, nat_lt, not, vec_capacity};
+ghost use Rattle.std.specs.Prelude.{IsTrue, IfOk, IfSome, MatchOption, Result, Some, None};
 ghost use Rattle.scsi_types.specs.Cdb.{need_of};
 ghost use Rattle.scsi_types.specs.declared.command.Command.{Command};
 ghost use Rattle.scsi_types.specs.declared.command.CdbFault.{CdbFault};

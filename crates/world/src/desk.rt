@@ -1,5 +1,6 @@
 //! A desk: the sessions whose jobs wait at it.
-ghost use Rattle.std.specs.Prelude.{◌≡◌, ◌<◌, ◌≤◌, ◌++◌, ◌∷◌, [], ℕ, length, not, if◌then◌else◌, IfOk, IfSome, IfNone, Some, nat_eq, slice_get};
+ghost use Rattle.std.specs.Prelude.{◌≡◌, ◌<◌, ◌≤◌, ◌++◌, ◌∷◌, [], ℕ, length, not, if◌then◌else◌, IfOk, IfSome, IfNone, Some, nat_eq};
+ghost use Rattle.std.specs.Prelude.{slice_get};
 ghost use Rattle.std.specs.List.{remove};
 
 use std::alloc::{AllocError, Global};
