@@ -10,7 +10,7 @@ use Rattle.scsi_types.specs.declared.reservation.PrOutAction.TheVariants.{Preemp
 use Rattle.scsi_types.specs.declared.reservation.PrOutAction.TheVariants.{RegisterAndIgnoreExistingKey}
 use Rattle.reservations.specs.declared.request.PrOut.{PrOut}
 use Rattle.registrants.specs.Registry.{RegistryValue, counted, is_key, is_registered, key_of}
-use Rattle.reservations.specs.Table.{Effect, Done, Conflicting, Refused, Full, IsPreempting, is_too_much, of_port, registration, asked_for, clearing, effect_of, effect_of_action, holds, holds_its_type, of_end}
+use Rattle.reservations.specs.Table.{Effect, Done, Conflicting, Refused, IsPreempting, is_too_much, of_port, registration, asked_for, clearing, effect_of, effect_of_action, holds, holds_its_type, of_end}
 use Rattle.reservations.specs.Table.{is_bad_reserve, is_preempting_all, is_preempting_holder, is_registering}
 use Rattle.reservations.specs.Table.{names_it, names_type, preempting, preempting_all, preempting_holder, preempting_registrants}
 use Rattle.reservations.specs.Table.{registering, releasing, reserving, shows_key}
@@ -40,7 +40,6 @@ abbrev pub Ends : (RegistryValue → List Told → Type 0) → Effect → Type 0
 Ends Q (Done new told) = Q new told
 Ends Q Conflicting = Unit {0}
 Ends Q (Refused asc ascq) = Unit {0}
-Ends Q Full = Unit {0}
 
 -- ---- what holds of what each action does
 

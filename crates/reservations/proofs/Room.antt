@@ -5,6 +5,7 @@ use Rattle.std.proofs.Math.Dec.{leb}
 use Rattle.std.proofs.lemmas.Bool.{ltb-false, ne_eqb}
 use Rattle.std.proofs.lemmas.Bool.Decides.{leb_tells}
 use Rattle.scsi_types.specs.Nexus.{Nexus, other_group}
+use Rattle.scsi_types.specs.Sense.{insufficient_registration_resources}
 use Rattle.scsi_types.specs.declared.names.Group.{Group}
 use Rattle.scsi_types.specs.declared.names.Group.TheVariants.{One, Two}
 use Rattle.registrants.specs.declared.registrant.Registrant.{Registrant}
@@ -12,7 +13,8 @@ use Rattle.registrants.specs.Nexus.{other_nexus, same_group, same_nexus}
 use Rattle.registrants.specs.Registry.{IsAscending, RegistryValue, counted, is_registered, registered_by}
 use Rattle.reservations.specs.declared.request.PrOut.{PrOut}
 use Rattle.reservations.specs.Notice.{told_of}
-use Rattle.reservations.specs.Table.{Done, Full, if_ended, is_too_much, of_end, of_end_elsewhere, of_port, registering_one, registering_port, registration}
+use Rattle.reservations.specs.Table.{Done, if_ended, is_too_much, of_end, of_end_elsewhere, of_port, registering_one, registering_port, registration}
+use Rattle.reservations.specs.Table.{refused_with}
 use Rattle.registrants.proofs.Held.{registered_beside}
 use Rattle.registrants.proofs.Listed.{ascending_registered, length_registered, missing}
 
@@ -79,11 +81,11 @@ too_much_port r n q much a some is =
     rw (ne_eqb q.sakey 0 some) (ap (nat_lt 64) (length_port n q.sakey r.registrants a) ∙ is)
 
 pub full_one : (r : RegistryValue) (n : Nexus) (q : PrOut) → is_too_much q (registration r n q) ≡ true
-    → registering_one r n q ≡ Full
+    → registering_one r n q ≡ refused_with insufficient_registration_resources
 full_one r n q much = rw much refl
 
 pub full_port : (r : RegistryValue) (n : Nexus) (q : PrOut) → is_too_much q (of_port r n q) ≡ true
-    → registering_port r n q ≡ Full
+    → registering_port r n q ≡ refused_with insufficient_registration_resources
 full_port r n q much = rw much refl
 
 -- the value between the call that registers and the one that counts is `new`

@@ -6,7 +6,7 @@ use Rattle.scsi_types.specs.Nexus.{Nexus}
 use Rattle.registrants.specs.declared.registrant.Registrant.{Registrant}
 use Rattle.registrants.specs.declared.registrant.Reservation.{Reservation}
 use Rattle.reservations.specs.declared.request.PrEnd.{PrEnd}
-use Rattle.reservations.specs.declared.request.PrEnd.TheVariants.{Good, Conflict, Illegal, TableFull}
+use Rattle.reservations.specs.declared.request.PrEnd.TheVariants.{Good, Conflict, Illegal}
 use Rattle.reservations.specs.declared.request.PrOut.{PrOut}
 use Rattle.registrants.specs.Kind.{type_of}
 use Rattle.registrants.specs.Nexus.{other_nexus, same_nexus}
@@ -149,5 +149,4 @@ pub stays_sound : (end : PrEnd) (old new : RegistryValue) (n : Nexus) (q : PrOut
     → IsSound new.registrants new.reservation
 stays_sound (Good telling) old new n q is s = effect_sound old n q new (tellings telling old.registrants) is s
 stays_sound Conflict old new n q is s = subst Sound (sym is.1) s
-stays_sound (Illegal asc ascq) old new n q is s = subst Sound (sym is.1) s
-stays_sound TableFull old new n q is s = subst Sound (sym is.1) s
+stays_sound (Illegal sense) old new n q is s = subst Sound (sym is.2) s

@@ -4,6 +4,9 @@ use Rattle.std.specs.Prelude.{◌≡◌, ℕ, Bool, true, false, not, ◌&&◌, 
 use Rattle.std.specs.Prelude.{List, [], length, Option, Some, None, is_some, if◌then◌else◌}
 use Rattle.std.specs.Option.{option_map}
 use Rattle.scsi_types.specs.Nexus.{Nexus}
+use Rattle.scsi_types.specs.Sense.{insufficient_registration_resources, invalid_field_in_cdb, invalid_field_in_parameter_list}
+use Rattle.scsi_types.specs.Sense.{invalid_release_of_persistent_reservation, sense}
+use Rattle.scsi_types.specs.declared.sense.Sense.{Sense}
 use Rattle.scsi_types.specs.declared.reservation.PrOutAction.{PrOutAction}
 use Rattle.scsi_types.specs.declared.reservation.PrOutAction.TheVariants.{Register, Reserve, Release, Clear}
 use Rattle.scsi_types.specs.declared.reservation.PrOutAction.TheVariants.{Preempt, PreemptAndAbort}
@@ -16,7 +19,7 @@ use Rattle.reservations.specs.declared.notice.Notice.TheVariants.{Nothing, ToAll
 use Rattle.registrants.specs.declared.registrant.Registrant.{Registrant}
 use Rattle.registrants.specs.declared.registrant.Reservation.{Reservation}
 use Rattle.reservations.specs.declared.request.PrEnd.{PrEnd}
-use Rattle.reservations.specs.declared.request.PrEnd.TheVariants.{Good, Conflict, Illegal, TableFull}
+use Rattle.reservations.specs.declared.request.PrEnd.TheVariants.{Good, Conflict, Illegal}
 use Rattle.reservations.specs.declared.request.PrOut.{PrOut}
 use Rattle.registrants.specs.Kind.{is_of_registrants, type_of}
 use Rattle.registrants.specs.Nexus.{other_nexus}
@@ -112,12 +115,19 @@ names_it r q = nat_eq q.scope 0 && is_of_code r.reservation q.kind
 
 -- ---- what a request ends in
 
--- GOOD, with the registry afterwards and who is told what; or a refusal, after which the registry is as it was
+-- GOOD, with the registry afterwards and who is told what; RESERVATION CONFLICT; or ILLEGAL REQUEST with this additional
+-- sense code and qualifier. After a refusal the registry is as it was.
 pub data Effect : Type 0 where
   Done : RegistryValue → List Told → Effect
   Conflicting : Effect
   Refused : ℕ → ℕ → Effect
-  Full : Effect
+
+-- the sense of a refusal: its key is ILLEGAL REQUEST (4.5.6)
+abbrev pub illegal_request : ℕ → ℕ → Sense
+illegal_request asc ascq = sense 0x05 asc ascq
+
+abbrev pub refused_with : Sense → Effect
+refused_with s = Refused s.asc s.ascq
 
 -- the reservation of the request's type, made by the nexus
 abbrev pub asked_for : Nexus → PrOut → Option Reservation
@@ -162,7 +172,8 @@ is_too_much q new = not (nat_eq q.sakey 0) && nat_lt most_registrants (length ne
 -- PRGENERATION counts the request once
 abbrev pub registered : RegistryValue → Nexus → PrOut → RegistryValue → Notice → Effect
 registered r n q new notice =
-    if is_too_much q new then Full else Done (counted new) (told_of n (if_ended new notice) r.registrants)
+    if is_too_much q new then refused_with insufficient_registration_resources
+    else Done (counted new) (told_of n (if_ended new notice) r.registrants)
 
 -- ALL_TG_PT (6.16.3): the registration is made for the sender's nexus, and then for the other nexus of its port
 abbrev pub of_port : RegistryValue → Nexus → PrOut → RegistryValue
@@ -191,7 +202,7 @@ abbrev pub releasing : RegistryValue → Nexus → PrOut → Effect
 releasing r n q =
     if holds r n then
     (if names_it r q then Done (record r { reservation = None }) (told_of n (of_end r.reservation) r.registrants)
-    else Refused 0x26 0x04)
+    else refused_with invalid_release_of_persistent_reservation)
     else Done r []
 
 -- ---- CLEAR, PREEMPT, and PREEMPT AND ABORT (5.13.11.3 to 5.13.11.5)
@@ -223,8 +234,8 @@ abbrev pub preempting : RegistryValue → Nexus → PrOut → Effect
 preempting r n q =
     if is_preempting_reservation r q then
     (if names_type q then (if is_preempting_holder r q then preempting_holder r n q else preempting_all r n q)
-    else Refused 0x24 0x00)
-    else if nat_eq q.sakey 0 then Refused 0x26 0x00
+    else refused_with invalid_field_in_cdb)
+    else if nat_eq q.sakey 0 then refused_with invalid_field_in_parameter_list
     else if is_key r.registrants q.sakey then preempting_registrants r n q
     else Conflicting
 
@@ -242,8 +253,8 @@ effect_of_action RegisterAndIgnoreExistingKey r n q = registering r n q
 -- a RESERVE with a field that it may not have, SPEC_I_PT, or a key that is not the one to show; else what the action does
 abbrev pub effect_of : RegistryValue → Nexus → PrOut → Effect
 effect_of r n q =
-    if is_bad_reserve q.action q then Refused 0x24 0x00
-    else if q.spec_i_pt then Refused 0x26 0x00
+    if is_bad_reserve q.action q then refused_with invalid_field_in_cdb
+    else if q.spec_i_pt then refused_with invalid_field_in_parameter_list
     else if shows_key q.action (key_of r.registrants n) q.key then effect_of_action q.action r n q
     else Conflicting
 
@@ -251,5 +262,4 @@ effect_of r n q =
 abbrev pub IsAnswer : PrEnd → Effect → RegistryValue → RegistryValue → Type 0
 IsAnswer (Good telling) e old new = e ≡ Done new (tellings telling old.registrants)
 IsAnswer Conflict e old new = (e ≡ Conflicting) × (new ≡ old)
-IsAnswer (Illegal asc ascq) e old new = (e ≡ Refused asc ascq) × (new ≡ old)
-IsAnswer TableFull e old new = (e ≡ Full) × (new ≡ old)
+IsAnswer (Illegal s) e old new = (e ≡ refused_with s) × (s ≡ illegal_request s.asc s.ascq) × (new ≡ old)

@@ -7,7 +7,7 @@ ghost use Rattle.reservations.specs.Table.{effect_of, effect_of_action, is_bad_r
 use crate::request::{is_bad_reserve, shows_key, type_asked};
 use crate::table::Table;
 use crate::{Nexus, PrEnd, PrOut};
-use scsi_types::PrOutAction;
+use scsi_types::{PrOutAction, Sense};
 
 impl Table {
     /// Does what the nexus asks.
@@ -19,10 +19,10 @@ impl Table {
         ensures room { vec_capacity self.new.registrants ≡ vec_capacity self.old.registrants }
     {
         if is_bad_reserve(request) {
-            return PrEnd::Illegal(0x24, 0x00);
+            return PrEnd::Illegal(Sense::INVALID_FIELD_IN_CDB);
         }
         if request.spec_i_pt {
-            return PrEnd::Illegal(0x26, 0x00);
+            return PrEnd::Illegal(Sense::INVALID_FIELD_IN_PARAMETER_LIST);
         }
         if !shows_key(request.action, self.key_of(nexus), request.key) {
             return PrEnd::Conflict;
@@ -45,7 +45,7 @@ impl Table {
             }
             PrOutAction::Reserve => match type_asked(request) {
                 Some(kind) => self.reserve(nexus, request, kind),
-                None => PrEnd::Illegal(0x24, 0x00),
+                None => PrEnd::Illegal(Sense::INVALID_FIELD_IN_CDB),
             },
             PrOutAction::Release => self.release(nexus, request),
             PrOutAction::Clear => self.clear(nexus, request),

@@ -10,7 +10,7 @@ use crate::reserve::reservation_by;
 use crate::table::Table;
 use crate::{Nexus, Notice, PrEnd, PrOut, ReservationType};
 use registrants::{retain_only, retain_without_key, retain_without_others_of_key};
-use scsi_types::UnitAttention;
+use scsi_types::{Sense, UnitAttention};
 
 impl Table {
     /// Ends the reservation and all registrations.
@@ -33,7 +33,7 @@ impl Table {
         let is_of_holder = self.is_holders_key(request.sakey);
         if is_of_holder || self.is_held_by_all() && request.sakey == 0 {
             let Some(kind) = type_asked(request) else {
-                return PrEnd::Illegal(0x24, 0x00);
+                return PrEnd::Illegal(Sense::INVALID_FIELD_IN_CDB);
             };
             if is_of_holder {
                 return self.preempt_holder(nexus, request, kind);
@@ -41,7 +41,7 @@ impl Table {
             return self.preempt_all(nexus, request, kind);
         }
         if request.sakey == 0 {
-            return PrEnd::Illegal(0x26, 0x00);
+            return PrEnd::Illegal(Sense::INVALID_FIELD_IN_PARAMETER_LIST);
         }
         if !self.is_key(request.sakey) {
             return PrEnd::Conflict;

@@ -9,6 +9,7 @@ use crate::notice::good;
 use crate::table::{MOST_REGISTRANTS, Table};
 use crate::{Nexus, Notice, PrEnd, PrOut};
 use registrants::{register_nexus, retain_others};
+use scsi_types::Sense;
 
 impl Table {
     /// Registers a nexus, or each nexus of its port, changes the key or takes the registration away. The reservation key has
@@ -35,7 +36,7 @@ impl Table {
         ensures room { vec_capacity self.new.registrants ≡ vec_capacity self.old.registrants }
     {
         if request.sakey != 0 && !self.has_room_for(self.missing(nexus)) {
-            return PrEnd::TableFull;
+            return PrEnd::Illegal(Sense::INSUFFICIENT_REGISTRATION_RESOURCES);
         }
         let notice = self.notice_of_end();
         self.set_registration(nexus, request);
@@ -52,7 +53,7 @@ impl Table {
     {
         let other = nexus.through_other();
         if request.sakey != 0 && !self.has_room_for(self.missing(nexus) + self.missing(&other)) {
-            return PrEnd::TableFull;
+            return PrEnd::Illegal(Sense::INSUFFICIENT_REGISTRATION_RESOURCES);
         }
         let notice = self.notice_of_end_elsewhere();
         self.set_registration(nexus, request);

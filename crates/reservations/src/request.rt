@@ -4,7 +4,7 @@ ghost use Rattle.registrants.specs.Kind.{type_of};
 ghost use Rattle.reservations.specs.Table.{is_bad_reserve, shows_key};
 
 use crate::{ReservationType, Telling};
-use scsi_types::PrOutAction;
+use scsi_types::{PrOutAction, Sense};
 
 /// A PERSISTENT RESERVE OUT: the fields of its CDB and of its parameter list (SPC-4, 6.16).
 #[derive(Clone, Copy, PartialEq, Eq)]
@@ -34,10 +34,8 @@ pub enum PrEnd {
     Good(Telling),
     /// RESERVATION CONFLICT.
     Conflict,
-    /// ILLEGAL REQUEST with this additional sense code and qualifier.
-    Illegal(u8, u8),
-    /// ILLEGAL REQUEST, INSUFFICIENT REGISTRATION RESOURCES (05 55/04).
-    TableFull,
+    /// CHECK CONDITION with this sense, whose key is ILLEGAL REQUEST (SPC-4, 4.5.6).
+    Illegal(Sense),
 }
 
 /// The type that a request names, if its scope is the logical unit and the type is one.

@@ -8,6 +8,7 @@ ghost use Rattle.reservations.specs.Table.{releasing, reserving};
 use crate::notice::good;
 use crate::table::Table;
 use crate::{Nexus, Notice, PrEnd, PrOut, Reservation, ReservationType};
+use scsi_types::Sense;
 
 /// A reservation of this type that a nexus makes.
 pub fn reservation_by(nexus: &Nexus, kind: ReservationType) -> Reservation
@@ -48,7 +49,7 @@ impl Table {
             return good(nexus, Notice::Nothing);
         }
         if request.scope != 0 || !self.is_of_code(request.kind) {
-            return PrEnd::Illegal(0x26, 0x04);
+            return PrEnd::Illegal(Sense::INVALID_RELEASE_OF_PERSISTENT_RESERVATION);
         }
         let notice = self.notice_of_end();
         self.reservation = None;

@@ -5,7 +5,7 @@ use Rattle.block_file.specs.Disk.{HoldsTheSame, NoMore, or_new}
 use Rattle.block_file.specs.Moment.{LeavesTheSame, StopsAmong}
 use Rattle.compare_write.specs.Instances.{write_instance}
 use Rattle.registrants.specs.Registry.{RecordValue, to_last}
-use Rattle.reservations.specs.Table.{Effect, Done, Conflicting, Refused, Full}
+use Rattle.reservations.specs.Table.{Effect, Done, Conflicting, Refused}
 use Rattle.scsi_types.specs.declared.command.Command.{Command}
 use Rattle.scsi_types.specs.declared.command.Command.TheVariants as commands
 use Rattle.scsi_types.specs.declared.command.CdbFault.{CdbFault}
@@ -64,7 +64,6 @@ abbrev pub saved_by : Effect → List RecordValue
 saved_by (Done registry told) = to_last registry ∷ []
 saved_by Conflicting = []
 saved_by (Refused asc ascq) = []
-saved_by Full = []
 
 -- no other command saves one
 abbrev pub saved_of : ControlValue → ℕ → Command → List ℕ → List RecordValue

@@ -8,10 +8,9 @@ use Rattle.reservations.specs.declared.request.PrOut.{PrOut}
 use Rattle.reservations.specs.Notice.{Told, code_told}
 use Rattle.reservations.specs.Reading.{keys_bytes, reservation_bytes, capabilities_bytes, full_status_bytes}
 use Rattle.registrants.specs.Registry.{RecordValue, RegistryValue, to_last}
-use Rattle.reservations.specs.Table.{Effect, Done, Conflicting, Refused, Full}
-use Rattle.reservations.specs.Table.{effect_of}
+use Rattle.reservations.specs.Table.{Effect, Done, Conflicting, Refused}
+use Rattle.reservations.specs.Table.{effect_of, illegal_request}
 use Rattle.scsi_types.specs.ReplyValue.{ReplyValue, good, check, conflict}
-use Rattle.scsi_types.specs.Sense.{sense, insufficient_registration_resources}
 use Rattle.scsi_types.specs.declared.attention.UnitAttention.{UnitAttention}
 use Rattle.scsi_types.specs.declared.command.Command.{Command}
 use Rattle.scsi_types.specs.declared.reservation.PrInAction.{PrInAction}
@@ -64,8 +63,7 @@ effect_by c session asked = effect_of c.registry (sender_of c.sessions session) 
 abbrev pub effect_reply : Effect → ReplyValue
 effect_reply (Done new told) = good []
 effect_reply Conflicting = conflict
-effect_reply (Refused asc ascq) = check (sense 0x05 asc ascq)
-effect_reply Full = check insufficient_registration_resources
+effect_reply (Refused asc ascq) = check (illegal_request asc ascq)
 
 -- The condition that a session hears of waits behind the others (SAM-5, 5.14). It is the one that is told to its nexus; a
 -- condition for a nexus of which no session is attached is told to nobody.
@@ -85,7 +83,6 @@ after_effect c (Done new told) =
     record c { registry = new; lasting = to_last new ∷ []; doubt = false; sessions = all_heard told c.sessions }
 after_effect c Conflicting = c
 after_effect c (Refused asc ascq) = c
-after_effect c Full = c
 
 -- ---- what is saved before it does that
 
@@ -100,7 +97,6 @@ abbrev pub MayFailToSave : ControlValue → Effect → List RecordValue → Type
 MayFailToSave c (Done new told) after = MaySave c (to_last new) after
 MayFailToSave c Conflicting after = ⊥
 MayFailToSave c (Refused asc ascq) after = ⊥
-MayFailToSave c Full after = ⊥
 
 -- the record is saved first
 abbrev pub after_saved : ControlValue → Effect → Choice → ControlValue

@@ -57,7 +57,6 @@ pub fn reserve<F: Blocks>(
             Reply::good(Vec::new(alloc))
         }
         PrEnd::Conflict => Reply::conflict(alloc),
-        PrEnd::Illegal(asc, ascq) => Reply::check(alloc, Sense::new(0x05, asc, ascq)),
-        PrEnd::TableFull => Reply::check(alloc, Sense::INSUFFICIENT_REGISTRATION_RESOURCES),
+        PrEnd::Illegal(sense) => Reply::check(alloc, sense),
     }
 }

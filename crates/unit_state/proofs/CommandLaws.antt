@@ -5,7 +5,7 @@ use Rattle.std.proofs.lemmas.Bool.Decides.{eqb_tells}
 use Rattle.access_states.specs.AccessMap.{AccessMapValue}
 use Rattle.access_states.specs.declared.list.AsetFault.{AsetFault}
 use Rattle.reservations.specs.Notice.{Told}
-use Rattle.reservations.specs.Table.{Effect, Done, Conflicting, Refused, Full}
+use Rattle.reservations.specs.Table.{Effect, Done, Conflicting, Refused}
 use Rattle.scsi_types.specs.declared.names.Group.{Group}
 use Rattle.scsi_types.specs.declared.command.Command.{Command as ScsiCommand}
 use Rattle.scsi_types.specs.declared.command.Command.TheVariants as commands
@@ -101,7 +101,6 @@ serials_after_effect : (c : ControlValue) (e : Effect) → serials (after_effect
 serials_after_effect c (Done new codes) = serials_heard codes c.sessions
 serials_after_effect c Conflicting = refl
 serials_after_effect c (Refused asc ascq) = refl
-serials_after_effect c Full = refl
 
 serials_saved : (c : ControlValue) (e : Effect) (choice : Choice)
     → serials (after_saved c e choice).sessions ≡ serials c.sessions
@@ -152,7 +151,6 @@ count_after_effect : (c : ControlValue) (e : Effect) → (after_effect c e).coun
 count_after_effect c (Done new codes) = refl
 count_after_effect c Conflicting = refl
 count_after_effect c (Refused asc ascq) = refl
-count_after_effect c Full = refl
 
 pub count_after_change : (c : ControlValue) (by_session : Option ℕ) (r : Result AccessMapValue AsetFault)
     → (after_change c by_session r).count ≡ c.count

@@ -1,6 +1,6 @@
 -- What GOOD of a PERSISTENT RESERVE OUT tells.
 use Rattle.std.proofs.Common.{◌≡◌, ℕ, List, [], Option, Some, None, Ok, refl, ap}
-use Rattle.reservations.specs.Table.{Effect, Done, Conflicting, Refused as Illegal, Full}
+use Rattle.reservations.specs.Table.{Effect, Done, Conflicting, Refused as Illegal}
 use Rattle.scsi_types.specs.ReplyValue.{ReplyValue, good}
 use Rattle.scsi_types.specs.declared.status.Status.TheVariants.{Good}
 use Rattle.scsi_types.specs.declared.command.Command.TheVariants.{PersistentReserveOut}
@@ -29,7 +29,6 @@ done_lasts : (c : ControlValue) (session : ℕ) (e : Effect) (choice : Choice) �
 done_lasts c session (Done new told) choice is same = rw same (record { lasting = refl; sure = refl })
 done_lasts c session Conflicting choice is same = absurd (cc)
 done_lasts c session (Illegal asc ascq) choice is same = absurd (cc)
-done_lasts c session Full choice is same = absurd (cc)
 
 saved_lasts : (c : ControlValue) (session : ℕ) (e : Effect) (choice : Choice) (blocks : List (List ℕ))
     → (saved_reply e (found blocks Nothing choice)).status ≡ Good

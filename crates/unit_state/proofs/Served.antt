@@ -2,7 +2,7 @@
 use Rattle.std.proofs.Common.{◌≡◌, ℕ, Bool, List, [], Ok, refl, sym, ap, subst, ⊎_elim}
 use Rattle.std.specs.Prelude.{IsTrue}
 use Rattle.compare_write.specs.declared.end.MediumEnd.{MediumEnd}
-use Rattle.reservations.specs.Table.{Effect, Done as Reserved, Conflicting, Refused, Full}
+use Rattle.reservations.specs.Table.{Effect, Done as Reserved, Conflicting, Refused}
 use Rattle.scsi_types.specs.declared.reservation.PrOutAction.{PrOutAction}
 use Rattle.registrants.specs.Registry.{RecordValue}
 use Rattle.unit_control.specs.Reserve.{MayFailToSave, after_effect, effect_by, effect_reply, pr_out}
@@ -99,7 +99,6 @@ pub effect_is_fine : (e : Effect) (blocks : List (List ℕ)) (lasting : List Rec
 effect_is_fine (Reserved new told) blocks lasting = refl
 effect_is_fine Conflicting blocks lasting = refl
 effect_is_fine (Refused asc ascq) blocks lasting = refl
-effect_is_fine Full blocks lasting = refl
 
 module _ (claims : Bool) (c now : ControlValue) (blocks : List (List ℕ)) (session : ℕ) (action : PrOutAction)
     (scope kind n : ℕ) (bytes : List ℕ) where

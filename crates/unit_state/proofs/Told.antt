@@ -10,7 +10,7 @@ use Rattle.reservations.specs.Notice.{Told, code_told}
 use Rattle.registrants.specs.Registry.{RegistryValue}
 use Rattle.reservations.specs.Table.{effect_of}
 use Rattle.scsi_types.specs.Nexus.{Nexus}
-use Rattle.reservations.specs.Table.{Effect, Done, Conflicting, Refused, Full}
+use Rattle.reservations.specs.Table.{Effect, Done, Conflicting, Refused}
 use Rattle.unit_control.specs.Reserve.{hear, after_effect, effect_by}
 use Rattle.scsi_types.specs.declared.attention.UnitAttention.{UnitAttention}
 use Rattle.scsi_types.specs.declared.attention.UnitAttention.TheVariants.{AccessStateChanged, PowerOn}
@@ -77,7 +77,6 @@ own_after untold c session asked (Done new told) is =
     ∙ heard_none told (session_of c.sessions session) (untold c.registry (sender_of c.sessions session) asked new told is)
 own_after untold c session asked Conflicting is = refl
 own_after untold c session asked (Refused asc ascq) is = refl
-own_after untold c session asked Full is = refl
 
 -- ---- resets and ends
 

@@ -11,7 +11,7 @@ returns-then-not-has_room_for-clause-does c =
     let n = c.args.nexus.now in
     let q = c.args.request in
     let none = told_one v.registrants n _ _ false c.missing.ensures c.has_room_for.ensures c.if-not-has_room_for.true in
-    (full_one v n q (too_much_one v n q true c.requires.ascending c.if-request-ne0.true none), refl)
+    (full_one v n q (too_much_one v n q true c.requires.ascending c.if-request-ne0.true none), refl, refl)
 
 pub returns-clause-does : goal.returns-clause-does
 returns-clause-does c =

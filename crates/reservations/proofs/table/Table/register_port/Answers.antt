@@ -15,7 +15,7 @@ returns-then-not-has_room_for-clause-does c =
     let q = c.args.request in
     let none = told_port v.registrants n _ _ _ _ false c.missing.ensures c.missing-then-request-ne0.ensures
     c.through_other-other.ensures c.has_room_for.ensures c.if-not-has_room_for.true in
-    (full_port v n q (too_much_port v n q true c.requires.ascending c.if-request-ne0.true none), refl)
+    (full_port v n q (too_much_port v n q true c.requires.ascending c.if-request-ne0.true none), refl, refl)
 
 pub set_registration-requires-2-clause-ascending : goal.set_registration-requires-2-clause-ascending
 set_registration-requires-2-clause-ascending c = λ some.

@@ -29,7 +29,7 @@ use crate::ends::must;
 use crate::units::rules::registrations::row::{NAMES, Who, request_of, who_named, word};
 use crate::units::rules::registrations::{actions, data_bytes, steps};
 use reservations::{Access, PrEnd, Registry};
-use scsi_types::PortName;
+use scsi_types::{PortName, Sense};
 use std::alloc::Global;
 use std::process::Abort;
 use std::test::*;
@@ -115,8 +115,10 @@ fn put_end(rt: &impl Abort, text: &mut String, end: &PrEnd) {
     let put = match end {
         PrEnd::Good(_) => write!(text, "Good;"),
         PrEnd::Conflict => write!(text, "Conflict;"),
-        PrEnd::Illegal(asc, ascq) => write!(text, "Illegal {asc:02X} {ascq:02X};"),
-        PrEnd::TableFull => write!(text, "Full;"),
+        PrEnd::Illegal(sense) => {
+            let Sense { asc, ascq, .. } = *sense;
+            write!(text, "Illegal {asc:02X} {ascq:02X};")
+        }
     };
     put.expect(rt, "memory");
 }
