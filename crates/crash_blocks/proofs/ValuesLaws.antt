@@ -6,16 +6,16 @@ use Rattle.std.proofs.lemmas.Bool.{cases_lt, le-leb, lt-ltb, le-ltb, leb-true, l
 use Rattle.std.proofs.lemmas.List.{append-nil, get_or_append_left, get_or-append_right, reverse-append, take_all, take_more, take-append-drop}
 use Rattle.crash_blocks.specs.declared.event.Event.{Event}
 use Rattle.crash_blocks.specs.declared.event.Event.TheVariants.{Write, Flush}
-use Rattle.crash_blocks.specs.declared.outcome.Gone.{Gone}
-use Rattle.crash_blocks.specs.declared.outcome.Pick.{Pick}
-use Rattle.crash_blocks.specs.declared.outcome.Pick.TheVariants.{Oldest, Newest, Turn}
+use Rattle.crash_blocks.specs.declared.pick.Past.{Past}
+use Rattle.crash_blocks.specs.declared.pick.Pick.{Pick}
+use Rattle.crash_blocks.specs.declared.pick.Pick.TheVariants.{Oldest, Newest, Rotated}
 use Rattle.block_file.specs.Cut.{cut, run_of}
 use Rattle.block_file.specs.CutLaws.{length-cut, cut_at, run_of_one}
 use Rattle.block_file.specs.Disk.{block_at, written, IsNewAt, MayLeave}
 use Rattle.block_file.specs.DiskLaws.{written_before, written_inside, written_behind}
 use Rattle.crash_blocks.specs.Events.{Held, contents_of, runs_fit}
 use Rattle.crash_blocks.specs.Moments.{held_at, length-contents, write_fits}
-use Rattle.crash_blocks.specs.Values.{place_of, picked_of, values_of, written_at, IsGone, HasGone, IsPicked}
+use Rattle.crash_blocks.specs.Values.{place_of, picked_of, values_of, written_at, IsPast, HasPast, IsPicked}
 
 -- ---- the block that a write has for a place
 
@@ -84,7 +84,7 @@ each_held size start (Write first bytes ∷ older) long fit k i lt =
 pub place_within : (pick : Pick) (k count : ℕ) → 0 < count → place_of pick k count < count
 place_within Oldest k count some = some
 place_within Newest k count some = omega arith
-place_within (Turn turn) k count some = mod-lt (k + turn) some
+place_within (Rotated turn) k count some = mod-lt (k + turn) some
 
 -- what is picked of a block is what a crash may leave of it
 pub picked_held : (pick : Pick) (size : ℕ) (start : List (List ℕ)) (events : List Event) → length start ≡ size
@@ -178,21 +178,21 @@ module _ (first : ℕ) (bytes : List ℕ) (k wanted : ℕ) (disk values : List (
   untouched (inr past) = written_behind disk run first run_fits k past
 
   -- a write of other blocks
-  pub gone_past : (gone : Gone) → (k < first) ⊎ (first + length bytes / 512 ≤ k)
-      → IsGone (block_at disk k) values wanted gone
-      → IsGone (block_at (written disk first run) k) (values ++ written_at first run k) wanted gone
-  gone_past gone out is =
+  pub gone_past : (past : Past) → (k < first) ⊎ (first + length bytes / 512 ≤ k)
+      → IsPast (block_at disk k) values wanted past
+      → IsPast (block_at (written disk first run) k) (values ++ written_at first run k) wanted past
+  gone_past past out is =
       let out_of : (k < first) ⊎ (first + length run ≤ k) =
       ⊎_elim (λ (lt : k < first). inl lt) (λ (past : first + length bytes / 512 ≤ k). inr (omega (arith, long_run, past))) out in
       rw (untouched out_of, outside_at first run k out_of, append-nil values) is
 
   -- a write of this one
-  pub gone_more : (gone : Gone) (block picked : List ℕ) → first ≤ k → k < first + length bytes / 512
-      → block ≡ take 512 (drop (512 * (k - first)) bytes) → (gone.written + 1 ≡ wanted → picked ≡ block)
-      → ((gone.written + 1 ≡ wanted → ⊥) → picked ≡ gone.picked) → IsGone (block_at disk k) values wanted gone
-      → IsGone (block_at (written disk first run) k) (values ++ written_at first run k) wanted
-      (record { holds = block; written = gone.written + 1; picked = picked })
-  gone_more gone block picked ge lt is found other was =
+  pub gone_more : (past : Past) (block picked : List ℕ) → first ≤ k → k < first + length bytes / 512
+      → block ≡ take 512 (drop (512 * (k - first)) bytes) → (past.written + 1 ≡ wanted → picked ≡ block)
+      → ((past.written + 1 ≡ wanted → ⊥) → picked ≡ past.picked) → IsPast (block_at disk k) values wanted past
+      → IsPast (block_at (written disk first run) k) (values ++ written_at first run k) wanted
+      (record { holds = block; written = past.written + 1; picked = picked })
+  gone_more past block picked ge lt is found other was =
       let below : k < first + length run = omega (arith, long_run, lt) in
       let new : block_at run (k - first) ≡ block =
       cut_at (length bytes / 512) bytes (k - first) (omega (arith, ge, lt)) ∙ sym is in
@@ -203,32 +203,32 @@ module _ (first : ℕ) (bytes : List ℕ) (k wanted : ℕ) (disk values : List (
         written = omega (arith, was.written, length-append values (block ∷ []));
         picked = λ le. ⊎_elim
             (λ (less : wanted < length values).
-            other (λ (e : gone.written + 1 ≡ wanted). let w : gone.written + 1 ≡ length values = was.written in omega arith)
-            ∙ was.picked (let w : gone.written + 1 ≡ length values = was.written in omega arith)
+            other (λ (e : past.written + 1 ≡ wanted). let w : past.written + 1 ≡ length values = was.written in omega arith)
+            ∙ was.picked (let w : past.written + 1 ≡ length values = was.written in omega arith)
             ∙ sym (get_or_append_left values (block ∷ []) [] wanted less))
             (λ (more : length values ≤ wanted).
-            let w : gone.written + 1 ≡ length values = was.written in
-            let e : gone.written + 1 ≡ wanted = omega arith in
+            let w : past.written + 1 ≡ length values = was.written in
+            let e : past.written + 1 ≡ wanted = omega arith in
             let z : wanted - length values ≡ 0 = omega arith in
             found e ∙ sym (get_or-append_right values (block ∷ []) (length values) wanted [] refl more
             ∙ ap (λ (j : ℕ). block_at (block ∷ []) j) z))
             (cases_lt wanted (length values));
       })
 
-pub write_more : (event : Event) (first : ℕ) (bytes : Vec ℕ Global) (given : List ℕ) (k wanted : ℕ) (old new : Gone)
+pub write_more : (event : Event) (first : ℕ) (bytes : Vec ℕ Global) (given : List ℕ) (k wanted : ℕ) (old new : Past)
     → event ≡ Write first bytes → given ≡ bytes.items
     → ((disk values : List (List ℕ)) → k < length disk → first + length given / 512 ≤ length disk
-    → IsGone (block_at disk k) values wanted old
-    → IsGone (block_at (written disk first (run_of given)) k) (values ++ written_at first (run_of given) k) wanted new)
+    → IsPast (block_at disk k) values wanted old
+    → IsPast (block_at (written disk first (run_of given)) k) (values ++ written_at first (run_of given) k) wanted new)
     → (size : ℕ) (start : List (List ℕ)) (older : List Event) → length start ≡ size → k < size
-    → IsTrue (runs_fit size (event ∷ older)) → HasGone start older k wanted old
-    → HasGone start (event ∷ older) k wanted new
+    → IsTrue (runs_fit size (event ∷ older)) → HasPast start older k wanted old
+    → HasPast start (event ∷ older) k wanted new
 write_more event first bytes given k wanted old new is same does = rw is (λ size start older long lt fit has.
     let whole : length (contents_of start older) ≡ size =
     length-contents size start older long (write_fits size first bytes older fit).1 in
     let within : first + length bytes.items / 512 ≤ size = (write_fits size first bytes older fit).0 in
     subst (λ (g : List ℕ). first + length g / 512 ≤ length (contents_of start older)
-    → IsGone (block_at (written (contents_of start older) first (run_of g)) k)
+    → IsPast (block_at (written (contents_of start older) first (run_of g)) k)
     (values_of start older k ++ written_at first (run_of g) k) wanted new) same
     (λ fits. does (contents_of start older) (values_of start older k) (omega (arith, whole, lt)) fits has)
     (omega (arith, whole, within)))
@@ -253,24 +253,24 @@ next_reversed events n event is lt =
     ap reverse (take_more events n event lt ∙ ap (λ (e : Event). take n events ++ e ∷ []) (sym is))
     ∙ reverse-append (take n events) (event ∷ [])
 
-pub gone_next : (bytes : List ℕ) (events : List Event) (n : ℕ) (event : Event) (k wanted : ℕ) (old new : Gone)
+pub gone_next : (bytes : List ℕ) (events : List Event) (n : ℕ) (event : Event) (k wanted : ℕ) (old new : Past)
     → event ≡ get_or events n event → n < length events
     → ((size : ℕ) (start : List (List ℕ)) (older : List Event) → length start ≡ size → k < size
-    → IsTrue (runs_fit size (event ∷ older)) → HasGone start older k wanted old
-    → HasGone start (event ∷ older) k wanted new)
+    → IsTrue (runs_fit size (event ∷ older)) → HasPast start older k wanted old
+    → HasPast start (event ∷ older) k wanted new)
     → ((size : ℕ) → length bytes ≡ 512 * size → k < size → IsTrue (runs_fit size (reverse events))
-    → HasGone (cut size bytes) (reverse (take n events)) k wanted old)
+    → HasPast (cut size bytes) (reverse (take n events)) k wanted old)
     → (size : ℕ) → length bytes ≡ 512 * size → k < size → IsTrue (runs_fit size (reverse events))
-    → HasGone (cut size bytes) (reverse (take (n + 1) events)) k wanted new
+    → HasPast (cut size bytes) (reverse (take (n + 1) events)) k wanted new
 gone_next bytes events n event k wanted old new is lt goes has size long small fit =
     let next : reverse (take (n + 1) events) ≡ event ∷ reverse (take n events) = next_reversed events n event is lt in
-    subst (λ (es : List Event). HasGone (cut size bytes) es k wanted new) (sym next)
+    subst (λ (es : List Event). HasPast (cut size bytes) es k wanted new) (sym next)
     (goes size (cut size bytes) (reverse (take n events)) (length-cut size bytes) small
     (subst (λ (es : List Event). IsTrue (runs_fit size es)) next (first_fit size events (n + 1) fit))
     (has size long small fit))
 
 pub gone_first : (bytes : List ℕ) (k wanted : ℕ) (block : List ℕ) → block ≡ take 512 (drop (512 * k) bytes) → (size : ℕ)
-    → k < size → HasGone (cut size bytes) [] k wanted (record { holds = block; written = 0; picked = block })
+    → k < size → HasPast (cut size bytes) [] k wanted (record { holds = block; written = 0; picked = block })
 gone_first bytes k wanted block is size lt =
     let at : block ≡ block_at (cut size bytes) k = is ∙ sym (cut_at size bytes k lt) in
     record {
@@ -281,12 +281,12 @@ gone_first bytes k wanted block is size lt =
     }
 
 -- what is found at the place that is picked
-pub found_at : (pick : Pick) (values : List (List ℕ)) (k : ℕ) (block other : List ℕ) (counted gone : Gone) (place : ℕ)
-    → IsGone other values 0 counted → place ≡ place_of pick k (counted.written + 1) → IsGone block values place gone
-    → gone.picked ≡ picked_of pick values k
-found_at pick values k block other counted gone place counts is has =
+pub found_at : (pick : Pick) (values : List (List ℕ)) (k : ℕ) (block other : List ℕ) (counted past : Past) (place : ℕ)
+    → IsPast other values 0 counted → place ≡ place_of pick k (counted.written + 1) → IsPast block values place past
+    → past.picked ≡ picked_of pick values k
+found_at pick values k block other counted past place counts is has =
     let same : place ≡ place_of pick k (length values) = is ∙ ap (place_of pick k) counts.written in
-    let w : gone.written + 1 ≡ length values = has.written in
+    let w : past.written + 1 ≡ length values = has.written in
     let c : counted.written + 1 ≡ length values = counts.written in
     let lt : place_of pick k (length values) < length values = place_within pick k (length values) (omega arith) in
     has.picked (omega (arith, w, lt, same)) ∙ ap (λ (j : ℕ). block_at values j) same

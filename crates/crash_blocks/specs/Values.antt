@@ -2,9 +2,9 @@
 use Rattle.std.specs.Prelude.{◌≡◌, ℕ, ◌+◌, ◌-◌, ◌%◌, ◌<◌, ◌≤◌, ◌&&◌, nat_le, nat_lt, if◌then◌else◌, List, [], ◌∷◌, ◌++◌, length}
 use Rattle.crash_blocks.specs.declared.event.Event.{Event}
 use Rattle.crash_blocks.specs.declared.event.Event.TheVariants.{Write, Flush}
-use Rattle.crash_blocks.specs.declared.outcome.Gone.{Gone}
-use Rattle.crash_blocks.specs.declared.outcome.Pick.{Pick}
-use Rattle.crash_blocks.specs.declared.outcome.Pick.TheVariants.{Oldest, Newest, Turn}
+use Rattle.crash_blocks.specs.declared.pick.Past.{Past}
+use Rattle.crash_blocks.specs.declared.pick.Pick.{Pick}
+use Rattle.crash_blocks.specs.declared.pick.Pick.TheVariants.{Oldest, Newest, Rotated}
 use Rattle.block_file.specs.Cut.{run_of}
 use Rattle.block_file.specs.Disk.{block_at}
 use Rattle.crash_blocks.specs.Events.{contents_of}
@@ -24,7 +24,7 @@ values_of start (Flush ∷ older) k = block_at (contents_of start older) k ∷ [
 abbrev pub place_of : Pick → ℕ → ℕ → ℕ
 place_of Oldest k count = 0
 place_of Newest k count = count - 1
-place_of (Turn turn) k count = (k + turn) % count
+place_of (Rotated turn) k count = (k + turn) % count
 
 abbrev pub picked_of : Pick → List (List ℕ) → ℕ → List ℕ
 picked_of pick values k = block_at values (place_of pick k (length values))
@@ -35,10 +35,10 @@ IsPicked pick size start events disk = (k : ℕ) → k < size → block_at disk 
 
 -- Behind some events a block holds this, was written so often since the last flush, and one of its values was found: this
 -- is known while the events are gone through.
-pub record IsGone (block : List ℕ) (values : List (List ℕ)) (wanted : ℕ) (gone : Gone) : Type 0 where
-  pub holds : gone.holds ≡ block
-  pub written : gone.written + 1 ≡ length values
-  pub picked : wanted ≤ gone.written → gone.picked ≡ block_at values wanted
+pub record IsPast (block : List ℕ) (values : List (List ℕ)) (wanted : ℕ) (past : Past) : Type 0 where
+  pub holds : past.holds ≡ block
+  pub written : past.written + 1 ≡ length values
+  pub picked : wanted ≤ past.written → past.picked ≡ block_at values wanted
 
-abbrev pub HasGone : List (List ℕ) → List Event → ℕ → ℕ → Gone → Type 0
-HasGone start events k wanted gone = IsGone (block_at (contents_of start events) k) (values_of start events k) wanted gone
+abbrev pub HasPast : List (List ℕ) → List Event → ℕ → ℕ → Past → Type 0
+HasPast start events k wanted past = IsPast (block_at (contents_of start events) k) (values_of start events k) wanted past

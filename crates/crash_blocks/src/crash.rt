@@ -11,7 +11,7 @@ ghost use Rattle.crash_blocks.specs.Values.{IsPicked};
 
 use crate::Pick;
 use crate::event::Event;
-use crate::outcome::left_of;
+use crate::pick::left_of;
 use block_file::{BLOCK_LENGTH, Blocks, DeviceFailed, MemBlocks};
 use std::alloc::{AllocError, Global};
 

@@ -5,7 +5,7 @@
 mod crash;
 mod event;
 pub mod laws;
-mod outcome;
+mod pick;
 
 pub use crash::CrashBlocks;
-pub use outcome::Pick;
+pub use pick::Pick;

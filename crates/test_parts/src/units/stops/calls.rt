@@ -109,7 +109,7 @@ pub fn picked(values: &[u8], block: u32, pick: Pick) -> Option<u8> {
     let place = match pick {
         Pick::Oldest => 0,
         Pick::Newest => values.len().wrapping_sub(1),
-        Pick::Turn(turn) => (block.wrapping_add(turn) as usize).checked_rem(values.len())?,
+        Pick::Rotated(turn) => (block.wrapping_add(turn) as usize).checked_rem(values.len())?,
     };
     values.get(place).copied()
 }

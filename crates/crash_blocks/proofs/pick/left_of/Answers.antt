@@ -1,5 +1,5 @@
 use Rattle.crash_blocks.proofs.ValuesLaws.{found_at}
-use Rattle.crash_blocks.proofs.outcome.left_of.Goals as goal
+use Rattle.crash_blocks.proofs.pick.left_of.Goals as goal
 
 pub returns : goal.returns
 returns c = λ size long lt fit.

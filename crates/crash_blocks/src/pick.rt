@@ -6,7 +6,7 @@ ghost use Rattle.block_file.specs.Cut.{cut};
 ghost use Rattle.crash_blocks.specs.Events.{runs_fit};
 ghost use Rattle.block_file.specs.Cut.{run_of};
 ghost use Rattle.block_file.specs.Disk.{block_at, written};
-ghost use Rattle.crash_blocks.specs.Values.{picked_of, place_of, values_of, written_at, IsGone, HasGone};
+ghost use Rattle.crash_blocks.specs.Values.{picked_of, place_of, values_of, written_at, IsPast, HasPast};
 
 use crate::event::Event;
 use block_file::BLOCK_LENGTH;
@@ -14,12 +14,12 @@ use block_file::BLOCK_LENGTH;
 /// What a crash leaves of a block that had some values since the last flush.
 #[derive(Clone, Copy, Debug, PartialEq, Eq)]
 pub enum Pick {
-    /// The value that the latest flush made durable.
+    /// The value that the block had at the latest flush, which no crash takes back.
     Oldest,
     /// What reads return.
     Newest,
     /// Of block `k` the value at place `(k + turn)` modulo their count, the oldest at 0.
-    Turn(u32),
+    Rotated(u32),
 }
 
 impl Pick {
@@ -30,7 +30,7 @@ impl Pick {
         match self {
             Pick::Oldest => 0,
             Pick::Newest => written,
-            Pick::Turn(turn) => {
+            Pick::Rotated(turn) => {
                 let sum = u64::from(k) + u64::from(turn);
                 if sum <= written {
                     sum
@@ -42,10 +42,10 @@ impl Pick {
     }
 }
 
-/// What a block has gone through: what it holds, how often it was written since the last flush, and the value at a place
-/// among those that it had since, where it was written that often.
+/// What is known of a block behind some events: what it holds, how often it was written since the last flush, and, of the values that
+/// it had since that flush, the one at the place that is looked for, where there are so many.
 #[derive(Clone, Copy)]
-pub struct Gone {
+pub struct Past {
     pub holds: [u8; BLOCK_LENGTH],
     pub written: u64,
     pub picked: [u8; BLOCK_LENGTH],
@@ -62,61 +62,62 @@ pub fn block_in(bytes: &[u8], k: usize) -> [u8; BLOCK_LENGTH]
     block
 }
 
-/// One event more of block `k`, of whose values the one at place `wanted` is to be found.
-pub fn go_on(gone: &mut Gone, event: &Event, k: u32, wanted: u64)
-    requires few { gone.old.written + 1 < 2 ^ 64 }
-    ensures written { gone.new.written ≤ gone.old.written + 1 }
-    ensures gone { (size : ℕ) (start : List (List ℕ)) (older : List Event) → length start ≡ size → k < size
-        → IsTrue (runs_fit size (event.now ∷ older)) → HasGone start older k wanted gone.old
-        → HasGone start (event.now ∷ older) k wanted gone.new }
+/// Goes on by one event: what is known of block `k` behind it. The value at place `wanted` is looked for.
+pub fn go_on(past: &mut Past, event: &Event, k: u32, wanted: u64)
+    requires few { past.old.written + 1 < 2 ^ 64 }
+    ensures written { past.new.written ≤ past.old.written + 1 }
+    ensures past { (size : ℕ) (start : List (List ℕ)) (older : List Event) → length start ≡ size → k < size
+        → IsTrue (runs_fit size (event.now ∷ older)) → HasPast start older k wanted past.old
+        → HasPast start (event.now ∷ older) k wanted past.new }
 {
     match event {
         Event::Flush => {
-            gone.written = 0;
-            gone.picked = gone.holds;
+            past.written = 0;
+            past.picked = past.holds;
         }
-        Event::Write { first, bytes } => write_on(gone, *first, bytes, k, wanted),
+        Event::Write { first, bytes } => write_on(past, *first, bytes, k, wanted),
     }
 }
 
 // One write more.
-fn write_on(gone: &mut Gone, first: u32, bytes: &[u8], k: u32, wanted: u64)
-    requires few { gone.old.written + 1 < 2 ^ 64 }
-    ensures written { gone.new.written ≤ gone.old.written + 1 }
-    ensures gone { (disk values : List (List ℕ)) → k < length disk → first + length bytes.now / BLOCK_LENGTH ≤ length disk
-        → IsGone (block_at disk k) values wanted gone.old
-        → IsGone (block_at (written disk first (run_of bytes.now)) k) (values ++ written_at first (run_of bytes.now) k)
-        wanted gone.new }
+fn write_on(past: &mut Past, first: u32, bytes: &[u8], k: u32, wanted: u64)
+    requires few { past.old.written + 1 < 2 ^ 64 }
+    ensures written { past.new.written ≤ past.old.written + 1 }
+    ensures past { (disk values : List (List ℕ)) → k < length disk → first + length bytes.now / BLOCK_LENGTH ≤ length disk
+        → IsPast (block_at disk k) values wanted past.old
+        → IsPast (block_at (written disk first (run_of bytes.now)) k) (values ++ written_at first (run_of bytes.now) k)
+        wanted past.new }
 {
     if k < first || (k - first) as usize >= bytes.len() / BLOCK_LENGTH {
         return;
     }
-    gone.holds = block_in(bytes, (k - first) as usize);
-    gone.written += 1;
-    if gone.written == wanted {
-        gone.picked = gone.holds;
+    past.holds = block_in(bytes, (k - first) as usize);
+    past.written += 1;
+    if past.written == wanted {
+        past.picked = past.holds;
     }
 }
 
-/// What block `k` has gone through, in all these events from these bytes on.
-pub fn gone_through(start: &[u8], events: &[Event], k: u32, wanted: u64) -> Gone
+/// What is known of block `k` behind all these events, which followed on the bytes `start`. The value at place `wanted` is looked for.
+pub fn gone_through(start: &[u8], events: &[Event], k: u32, wanted: u64) -> Past
     requires within { BLOCK_LENGTH * k + BLOCK_LENGTH ≤ length start.now }
     ensures { (size : ℕ) → length start.now ≡ BLOCK_LENGTH * size → k < size
-        → IsTrue (runs_fit size (reverse events.now)) → HasGone (cut size start.now) (reverse events.now) k wanted result }
+        → IsTrue (runs_fit size (reverse events.now)) → HasPast (cut size start.now) (reverse events.now) k wanted result }
 {
     let holds = block_in(start, k as usize);
-    let mut gone = Gone {
+    let mut past = Past {
         holds,
         written: 0,
         picked: holds,
     };
     for place in 0..events.len() {
-        go_on(&mut gone, &events[place], k, wanted);
+        go_on(&mut past, &events[place], k, wanted);
     }
-    gone
+    past
 }
 
-/// What a crash leaves of block `k`, by this pick. The events are gone through twice: to count the values, and to find the one.
+/// What a crash leaves of block `k` by this pick, where these events followed on the bytes `start`. They are gone through twice: the
+/// first time counts the values that the block had since the last flush, the second finds the one that is picked.
 pub fn left_of(start: &[u8], events: &[Event], k: u32, pick: Pick) -> [u8; BLOCK_LENGTH]
     requires within { BLOCK_LENGTH * k + BLOCK_LENGTH ≤ length start.now }
     ensures { (size : ℕ) → length start.now ≡ BLOCK_LENGTH * size → k < size
