@@ -6,7 +6,7 @@ use Rattle.std.proofs.lemmas.List.Elements.{All-append, All-cons, All-nil}
 use Rattle.std.specs.Prelude.{Ok, if◌then◌else◌}
 use Rattle.access_states.specs.declared.change.Change.{Change}
 use Rattle.scsi_types.specs.declared.names.Group.{Group}
-use Rattle.failover.specs.Down.{Move}
+use Rattle.failover.specs.Mover.{Move}
 use Rattle.failover.specs.Up.{AreUp, IsAskedUp, chosen_below, up_list}
 use Rattle.unit_control.specs.State.{preferred}
 

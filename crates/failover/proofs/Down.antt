@@ -6,7 +6,8 @@ use Rattle.std.proofs.lemmas.List.{length-append}
 use Rattle.std.specs.Prelude.{slice_get, Ok}
 use Rattle.access_states.specs.declared.change.Change.{Change}
 use Rattle.scsi_types.specs.declared.names.Group.{Group}
-use Rattle.failover.specs.Down.{AreDown, IsAsked, Move}
+use Rattle.failover.specs.Mover.{Move}
+use Rattle.failover.specs.Down.{AreDown, IsAsked}
 
 module _ {X : Type 0} where
   get_last : (xs : List X) (x : X) (n : ℕ) → length xs ≡ n → slice_get (xs ++ x ∷ []) n ≡ Some x

@@ -2,7 +2,7 @@
 use Rattle.std.proofs.Common.{◌≡◌, ◌<◌, ℕ, zero, suc, List, [], ◌∷◌, ◌++◌, length, Option, Some, None}
 use Rattle.std.proofs.Common.{refl, arith, ap, sym, ◌∙◌}
 use Rattle.std.specs.Prelude.{slice_set}
-use Rattle.failover.specs.Down.{AreFirst, kept_in}
+use Rattle.failover.specs.Mover.{AreFirst, kept_in}
 
 module _ {X : Type 0} where
   -- where nothing is kept, no place behind an empty one is taken

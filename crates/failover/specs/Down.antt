@@ -1,44 +1,10 @@
 -- The moves by which a controller goes down.
-use Rattle.std.specs.Prelude.{◌≡◌, ◌<◌, ◌++◌, ℕ, List, [], ◌∷◌, length, Option, Some, None, slice_get, Result, Ok, Err, IfOk, IfErr, ⊤}
+use Rattle.std.specs.Prelude.{◌≡◌, ◌<◌, ◌++◌, ℕ, List, [], ◌∷◌, length, Some, slice_get, Ok, Err}
 use Rattle.access_states.specs.declared.change.Change.{Change}
 use Rattle.scsi_types.specs.declared.names.Group.{Group}
 use Rattle.scsi_types.specs.declared.names.Group.TheVariants.{One, Two}
-use Rattle.unit_history.specs.Calls.{HasMoved, HasStayed}
-use Rattle.unit_entries.specs.Devices.{Devices}
-use Rattle.unit_control.specs.Entry.{Entry}
-use Rattle.unit_control.specs.State.{UnitState}
 use Rattle.unit_state.specs.declared.unit.MoveFault.{MoveFault}
-
--- A move that was asked of a unit: its place, the parameter list of SET TARGET PORT GROUPS, the history that was seen of the
--- unit, and what the move came to.
-pub record Move : Type 0 where
-  pub place : ℕ
-  pub list : List ℕ
-  pub seen : List Entry
-  pub end : Result Change MoveFault
-
--- What a move shows: a legal history of its unit, which ends with it, and what became of the devices; or, where the unit stays,
--- one that shows why.
-abbrev pub IsMade : {B R O : Type 0} → Devices B R O → (ℕ → UnitState) → Move → Type 0
-IsMade d opening m =
-    IfOk m.end (HasMoved d (opening m.place) m.list m.seen) × IfErr m.end (HasStayed d (opening m.place) m.list m.seen)
-
--- Who moves units knows how many there are, and keeps what was moved, the first first.
-pub record MoverValue : Type 0 where
-  pub units : ℕ
-  pub moved : List Move
-
--- what lies in the places that are taken
-abbrev pub kept_in : {X : Type 0} → List (Option X) → List X
-kept_in [] = []
-kept_in (None ∷ xs) = kept_in xs
-kept_in (Some x ∷ xs) = x ∷ kept_in xs
-
--- the places that are taken are the first ones
-abbrev pub AreFirst : {X : Type 0} → List (Option X) → Type 0
-AreFirst [] = ⊤
-AreFirst (None ∷ xs) = kept_in xs ≡ []
-AreFirst (Some x ∷ xs) = AreFirst xs
+use Rattle.failover.specs.Mover.{Move}
 
 -- The parameter list of SET TARGET PORT GROUPS (SPC-4, 6.45) by which a controller goes down: four reserved bytes; the other
 -- group, active/optimized (0); its own, unavailable (3).

@@ -1,2 +1,3 @@
+pub mod Mover
 pub mod Down
 pub mod Up

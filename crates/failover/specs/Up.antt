@@ -5,7 +5,7 @@ use Rattle.scsi_types.specs.declared.names.Group.{Group}
 use Rattle.scsi_types.specs.declared.names.Group.TheVariants.{One, Two}
 use Rattle.unit_control.specs.State.{preferred}
 use Rattle.unit_state.specs.declared.unit.MoveFault.{MoveFault}
-use Rattle.failover.specs.Down.{Move}
+use Rattle.failover.specs.Mover.{Move}
 
 -- The parameter list of SET TARGET PORT GROUPS (SPC-4, 6.45) by which a unit is as it opens: four reserved bytes; the group that it
 -- prefers, active/optimized (0); the other, active/non-optimized (1).

@@ -65,17 +65,17 @@ pub fn set_groups<B: Blocks, F: Blocks, O: Opener<B>, N: Array<Opened>, W: Wait>
 /// controller's portals stay open, and SET TARGET PORT GROUPS brings it back.
 pub fn take_down<W: Wait, M: Moves>(
     rt: &W,
-    units: &mut M,
+    mover: &mut M,
     controller: Group,
 ) -> Result<(), NotMoved>
-    requires fresh { M.moved units.old ≡ [] }
-    ensures down { IfOk result (λ done. AreDown M.made controller (M.units units.old) (M.moved units.new)) }
-    ensures stopped { IfErr result (λ end. (end.unit < M.units units.old)
-        × IsStopped M.made controller end.unit end.why (M.moved units.new)) }
+    requires fresh { M.asked mover.old ≡ [] }
+    ensures down { IfOk result (λ done. AreDown M.made controller (M.unit_count mover.old) (M.asked mover.new)) }
+    ensures stopped { IfErr result (λ end. (end.unit < M.unit_count mover.old)
+        × IsStopped M.made controller end.unit end.why (M.asked mover.new)) }
 {
     let list = down_list(controller);
-    for place in 0..units.count() {
-        if let Err(why) = units.move_to(rt, place, &list) {
+    for place in 0..mover.count() {
+        if let Err(why) = mover.move_to(rt, place, &list) {
             return Err(NotMoved { unit: place, why });
         }
     }

@@ -1,6 +1,6 @@
 //! Who moves the units of an array, and keeps each move that is asked of it, done or not.
 ghost use Rattle.std.specs.Prelude.{◌≡◌, ◌<◌, ◌≤◌, ◌++◌, ◌∷◌, [], ℕ, List, length};
-ghost use Rattle.failover.specs.Down.{Move};
+ghost use Rattle.failover.specs.Mover.{Move};
 
 use crate::set_groups;
 use access_states::Change;
@@ -18,59 +18,59 @@ pub type GroupsList = [u8; 12];
 /// The way to the units of one who moves them, and does nothing else with them. Each move that is asked by it is kept, with its end.
 pub trait Moves {
     /// How many units there are.
-    ghost units: { Self → ℕ };
+    ghost unit_count: { Self → ℕ };
 
     /// The moves that were asked, the first first.
-    ghost moved: { Self → List Move };
+    ghost asked: { Self → List Move };
 
     /// What the history of a move shows: the move as its last entry, or why the unit stays (`IsMade`).
     ghost made: { Move → Type 0 };
 
     /// How many units there are.
     fn count(&self) -> usize
-        ensures count { result ≡ units self.now }
+        ensures count { result ≡ unit_count self.now }
         ensures few { result ≤ 8 };
 
-    /// Moves the unit at a place as a list says, or tells why it stays. There is room for eight moves.
+    /// Moves the unit at a place as a list says, or tells why it stays. There is room for eight moves, one for each of `MOST_UNITS`.
     fn move_to<W: Wait>(
         &mut self,
         rt: &W,
         place: usize,
         list: &GroupsList,
     ) -> Result<Change, MoveFault>
-        requires place { place < units self.old }
-        requires room { length (moved self.old) < 8 }
-        ensures units { units self.new ≡ units self.old }
-        ensures moved { (m : Move) × (moved self.new ≡ moved self.old ++ m ∷ [])
+        requires place { place < unit_count self.old }
+        requires room { length (asked self.old) < 8 }
+        ensures unit_count { unit_count self.new ≡ unit_count self.old }
+        ensures asked { (m : Move) × (asked self.new ≡ asked self.old ++ m ∷ [])
             × (m.place ≡ place) × (m.list ≡ list.now) × (m.end ≡ result) × made m };
 }
 
 /// A move that was asked, as it is kept: also one that was not done.
 #[derive(Drop)]
-struct Moved<B: Blocks, F: Blocks, O: Opener<B>, N: Array<Opened>> {
+struct Asked<B: Blocks, F: Blocks, O: Opener<B>, N: Array<Opened>> {
     list: GroupsList,
     seen: LegalHistory<B, F, O, N>,
     end: Result<Change, MoveFault>,
 }
 
-impl<B: Blocks, F: Blocks, O: Opener<B>, N: Array<Opened>> Model for Moved<B, F, O, N> {
-    ghost use Rattle.failover.specs.Down.{Move};
+impl<B: Blocks, F: Blocks, O: Opener<B>, N: Array<Opened>> Model for Asked<B, F, O, N> {
+    ghost use Rattle.failover.specs.Mover.{Move};
 
     ghost Value = { Move };
 
     ghost view = { λ m. record { place = m.seen.0; list = m.list; seen = m.seen.1; end = m.end } };
 }
 
-/// Moves that were asked, the first first. It has room for eight. Nothing reads them: contracts say by them what was moved, and what not.
+/// Moves that were asked, the first first. It has room for eight, one for each of `MOST_UNITS`. Nothing reads them: contracts say by them what was moved, and what not.
 #[derive(Drop)]
 struct Kept<B: Blocks, F: Blocks, O: Opener<B>, N: Array<Opened>> {
-    moves: [Option<Moved<B, F, O, N>>; MOST_UNITS],
+    moves: [Option<Asked<B, F, O, N>>; MOST_UNITS],
     count: usize,
 }
 
 impl<B: Blocks, F: Blocks, O: Opener<B>, N: Array<Opened>> Model for Kept<B, F, O, N> {
     ghost use Rattle.std.specs.Prelude.{◌≡◌, List, length};
-    ghost use Rattle.failover.specs.Down.{AreFirst, Move, kept_in};
+    ghost use Rattle.failover.specs.Mover.{AreFirst, Move, kept_in};
 
     ghost Value = { List Move };
 
@@ -91,11 +91,11 @@ impl<B: Blocks, F: Blocks, O: Opener<B>, N: Array<Opened>> Kept<B, F, O, N> {
     }
 
     // Keeps one more.
-    fn push(&mut self, moved: Moved<B, F, O, N>)
+    fn push(&mut self, asked: Asked<B, F, O, N>)
         requires { length self.old < 8 }
-        ensures { self.new ≡ self.old ++ moved ∷ [] }
+        ensures { self.new ≡ self.old ++ asked ∷ [] }
     {
-        self.moves[self.count] = Some(moved);
+        self.moves[self.count] = Some(asked);
         self.count += 1;
     }
 }
@@ -108,18 +108,18 @@ pub struct Mover<'a, B: Blocks, F: Blocks, O: Opener<B>, N: Array<Opened>> {
 }
 
 impl<'a, B: Blocks, F: Blocks, O: Opener<B>, N: Array<Opened>> Model for Mover<'a, B, F, O, N> {
-    ghost use Rattle.failover.specs.Down.{MoverValue};
+    ghost use Rattle.failover.specs.Mover.{MoverValue};
 
     ghost Value = { MoverValue };
 
-    ghost view = { λ m. record { units = m.units.now; moved = m.kept } };
+    ghost view = { λ m. record { unit_count = m.units.now; asked = m.kept } };
 }
 
 impl<'a, B: Blocks, F: Blocks, O: Opener<B>, N: Array<Opened>> Mover<'a, B, F, O, N> {
     /// One by which no move was asked yet.
     pub fn new(units: &'a Units<B, F, O, N>) -> Mover<'a, B, F, O, N>
-        ensures units { result.units ≡ units.now }
-        ensures moved { result.moved ≡ [] }
+        ensures unit_count { result.unit_count ≡ units.now }
+        ensures asked { result.asked ≡ [] }
     {
         Mover {
             units,
@@ -130,11 +130,11 @@ impl<'a, B: Blocks, F: Blocks, O: Opener<B>, N: Array<Opened>> Mover<'a, B, F, O
 
 impl<'a, B: Blocks, F: Blocks, O: Opener<B>, N: Array<Opened>> Moves for Mover<'a, B, F, O, N> {
     ghost use Rattle.unit_entries.specs.Devices.{devices};
-    ghost use Rattle.failover.specs.Down.{IsMade};
+    ghost use Rattle.failover.specs.Mover.{IsMade};
 
-    ghost units = { λ m. m.units };
+    ghost unit_count = { λ m. m.unit_count };
 
-    ghost moved = { λ m. m.moved };
+    ghost asked = { λ m. m.asked };
 
     ghost made = { IsMade (devices B.Blocks F.Blocks O.Opener) N.opening };
 
@@ -149,7 +149,7 @@ impl<'a, B: Blocks, F: Blocks, O: Opener<B>, N: Array<Opened>> Moves for Mover<'
         list: &GroupsList,
     ) -> Result<Change, MoveFault> {
         let (seen, end) = set_groups(rt, self.units, place, list);
-        self.kept.push(Moved {
+        self.kept.push(Asked {
             list: *list,
             seen,
             end,

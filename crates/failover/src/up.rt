@@ -25,18 +25,18 @@ fn up_list(preferred: Group) -> GroupsList
 /// show.
 pub fn bring_up<W: Wait, M: Moves>(
     rt: &W,
-    units: &mut M,
+    mover: &mut M,
     chosen: &[bool; MOST_UNITS],
 ) -> Result<(), NotMoved>
-    requires fresh { M.moved units.old ≡ [] }
-    ensures up { IfOk result (λ done. AreUp M.made chosen.now (M.units units.old) (M.moved units.new)) }
-    ensures stopped { IfErr result (λ end. (end.unit < M.units units.old)
-        × IsStoppedUp M.made chosen.now end.unit end.why (M.moved units.new)) }
+    requires fresh { M.asked mover.old ≡ [] }
+    ensures up { IfOk result (λ done. AreUp M.made chosen.now (M.unit_count mover.old) (M.asked mover.new)) }
+    ensures stopped { IfErr result (λ end. (end.unit < M.unit_count mover.old)
+        × IsStoppedUp M.made chosen.now end.unit end.why (M.asked mover.new)) }
 {
-    for place in 0..units.count() {
+    for place in 0..mover.count() {
         if chosen[place] {
             let list = up_list(preferred(place));
-            if let Err(why) = units.move_to(rt, place, &list) {
+            if let Err(why) = mover.move_to(rt, place, &list) {
                 return Err(NotMoved { unit: place, why });
             }
         }

@@ -4,5 +4,5 @@ use Rattle.failover.proofs.take_down.Given as goal
 
 abbrev pub invariant-loop-place : goal.invariant-loop-place
 invariant-loop-place g l =
-    (g.M.Moves.units l.units ≡ g.M.Moves.units l.fn.units)
-    × AreDown g.M.Moves.made l.fn.controller l.place (g.M.Moves.moved l.units)
+    (g.M.Moves.unit_count l.mover ≡ g.M.Moves.unit_count l.fn.mover)
+    × AreDown g.M.Moves.made l.fn.controller l.place (g.M.Moves.asked l.mover)

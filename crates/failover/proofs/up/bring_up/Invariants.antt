@@ -4,5 +4,5 @@ use Rattle.failover.proofs.up.bring_up.Given as goal
 
 abbrev pub invariant-loop-place : goal.invariant-loop-place
 invariant-loop-place g l =
-    (g.M.Moves.units l.units ≡ g.M.Moves.units l.fn.units)
-    × AreUp g.M.Moves.made l.fn.chosen l.place (g.M.Moves.moved l.units)
+    (g.M.Moves.unit_count l.mover ≡ g.M.Moves.unit_count l.fn.mover)
+    × AreUp g.M.Moves.made l.fn.chosen l.place (g.M.Moves.asked l.mover)
