@@ -11,5 +11,5 @@ mod state;
 
 pub use access_map::AccessMap;
 pub use change::Change;
-pub use list::AsetFault;
+pub use list::{AsetFault, Named, named_by};
 pub use state::{AccessState, Cause, GroupAccess, permits};

@@ -33,7 +33,7 @@ impl AsetFault {
     }
 }
 
-/// The states with which a list names the groups; none for one that it does not name.
+/// The states with which the parameter list of a SET TARGET PORT GROUPS names the groups; none for one that it does not name.
 #[derive(Clone, Copy)]
 pub struct Named {
     pub one: Option<AccessState>,
@@ -53,7 +53,8 @@ pub struct Descriptor {
     pub group: u16,
 }
 
-/// The states with which a list names the groups, or why it is refused.
+/// The states with which the parameter list of a SET TARGET PORT GROUPS names the groups, or why it is refused (SPC-4, 6.45). `list`
+/// is the whole list: four reserved bytes, and four for each group.
 #[tactic(auto, using(crate::proofs::Crowd::refused))]
 pub fn named_by(list: &[u8]) -> Result<Named, AsetFault>
     ensures { result ≡ named_by list.now }

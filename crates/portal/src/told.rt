@@ -1,7 +1,9 @@
 //! What of commands and replies the log is told.
 
+use access_states::{AccessState, named_by};
 use event_log::{Access, Action, Operation, Reservation, Sense};
 use scsi_types::{Asked, Command, PrOutAction, Reply};
+use unit_state::reserve::{LIST_LENGTH, pr_out};
 
 /// What a command is, as the log names it.
 pub(crate) fn operation_of(asked: &Asked) -> Operation {
@@ -29,28 +31,26 @@ fn action_of(action: PrOutAction) -> Action {
     }
 }
 
-// A key, eight bytes read as a number.
-fn key_in(bytes: &[u8]) -> u64 {
-    let mut key = 0u64;
-    for byte in bytes {
-        key = (key << 8) | u64::from(*byte);
-    }
-    key
-}
-
 /// What a PERSISTENT RESERVE OUT asks for, with its parameter list (SPC-4, 6.16.3).
 pub(crate) fn reservation_in(asked: &Asked, list: &[u8]) -> Option<Reservation> {
-    match asked {
-        Ok(Command::PersistentReserveOut { action, kind, .. }) if list.len() >= 16 => {
-            Some(Reservation {
-                action: action_of(*action),
-                key: key_in(&list[..8]),
-                service_action_key: key_in(&list[8..16]),
-                kind: *kind,
-            })
-        }
-        _ => None,
+    let Ok(Command::PersistentReserveOut {
+        action,
+        scope,
+        kind,
+        ..
+    }) = asked else {
+        return None;
+    };
+    if list.len() < LIST_LENGTH as usize {
+        return None;
     }
+    let request = pr_out(*action, *scope, *kind, list);
+    Some(Reservation {
+        action: action_of(*action),
+        key: request.key,
+        service_action_key: request.sakey,
+        kind: *kind,
+    })
 }
 
 /// The access states of a unit's groups: which one is active/optimized, and the states of both.
@@ -88,23 +88,24 @@ fn states_of(first: Access, second: Access) -> Option<States> {
     }
 }
 
+// The state with which a list names a group, as the log tells it.
+fn access_of(named: Option<AccessState>) -> Access {
+    match named {
+        Some(state) => Access::of(u64::from(state.code())),
+        None => Access::Unnamed,
+    }
+}
+
 /// What a SET TARGET PORT GROUPS makes of both groups by its parameter list (SPC-4, 6.45), where it is GOOD and names any.
-pub(crate) fn states_in(asked: &Asked, list: &[u8]) -> Option<States> {
-    let Ok(Command::SetTargetPortGroups { .. }) = asked else {
+pub(crate) fn states_in(asked: &Asked, bytes: &[u8]) -> Option<States> {
+    let Ok(Command::SetTargetPortGroups { list_length }) = asked else {
         return None;
     };
-    let (mut first, mut second) = (Access::Unnamed, Access::Unnamed);
-    for descriptor in list.chunks(4).skip(1) {
-        if descriptor.len() == 4 {
-            let state = Access::of(u64::from(descriptor[0] & 0x0F));
-            match u16::from_be_bytes([descriptor[2], descriptor[3]]) {
-                1 => first = state,
-                2 => second = state,
-                _ => {}
-            }
-        }
+    let list = bytes.get(..*list_length as usize)?;
+    match named_by(list) {
+        Ok(named) => states_of(access_of(named.one), access_of(named.two)),
+        Err(_) => None,
     }
-    states_of(first, second)
 }
 
 /// Whether a reply tells of a device that failed: MEDIUM ERROR or HARDWARE ERROR (SPC-4, 4.5.6).

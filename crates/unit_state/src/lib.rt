@@ -5,7 +5,7 @@ mod commands;
 mod devices;
 pub mod laws;
 mod ops;
-mod reserve;
+pub mod reserve;
 mod rules;
 mod unit;
 
