@@ -31,7 +31,8 @@ use Rattle.unit_state.specs.Serials.{IsNumbered, IsOpening, commands_of}
 use Rattle.unit_state.proofs.SerialLaws.{numbered}
 use Rattle.unit_state.specs.Step.{IsStep, entry_of}
 use Rattle.unit_entries.specs.Histories.{IsHistory, IsBehind, IsToldBehind, own, command}
-use Rattle.unit_entries.specs.Causes.{IsFull, IsGone, IsUnattached, IsMoveTold}
+use Rattle.unit_entries.specs.NoEntry.{IsFull, IsSessionGone, IsUnattached}
+use Rattle.unit_entries.specs.Histories.{IsMoveTold}
 
 -- ---- whose entries they are
 
@@ -72,7 +73,7 @@ gone_by c i (Some a) is n =
     inr (omega (arith, full))
 
 pub gone : (s : UnitState) (h : List Entry) (c : ControlValue) (i : ℕ) → c ≡ (state_after s h).control
-    → (IsAttached c i → ⊥) → IsGone s h i
+    → (IsAttached c i → ⊥) → IsSessionGone s h i
 gone s h c i is n =
     let at = (state_after s h).control in
     gone_by at i (session_of at.sessions i) refl (subst (λ (x : ControlValue). IsAttached x i → ⊥) is n)
@@ -88,7 +89,7 @@ session_next sessions i (Some a) is some = (a.next, rw is refl)
 
 -- a session that is attached has the serial behind its commands
 pub gone_next : (claims : Bool) (s : UnitState) (h : List Entry) (c : ControlValue) (i n : ℕ) → IsHistory claims s h
-    → c ≡ (state_after s h).control → counted command i h + 1 ≡ n → (IsNext c i n → ⊥) → IsGone s h i
+    → c ≡ (state_after s h).control → counted command i h + 1 ≡ n → (IsNext c i n → ⊥) → IsSessionGone s h i
 gone_next claims s h c i n l is serial f =
     let at = (state_after s h).control in
     gone s h at i refl (λ (a : IsAttached at i).
@@ -278,7 +279,7 @@ module _ {B R O : Type 0} (claims : Bool) (contents : B → List (List ℕ)) (fa
       ∙ ap (λ (n : Nexus). let e : Entry = Attach n in e) (last_attached c nexus)
 
   pub gone_cause : (old : UnitValue B R O) (i n : ℕ) → (IsNext old.control i n → ⊥) → (s : UnitState) (h : List Entry)
-      → IsHistory claims s h → Is s h old → counted command i h + 1 ≡ n → IsGone s h i
+      → IsHistory claims s h → Is s h old → counted command i h + 1 ≡ n → IsSessionGone s h i
   gone_cause old i n f s h l a serial = gone_next claims s h old.control i n l a.control serial f
 
   -- ---- a unit of which nothing was asked yet

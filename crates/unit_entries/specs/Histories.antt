@@ -1,12 +1,14 @@
 -- The history of a unit, and what the unit is behind it.
 use Rattle.std.specs.Prelude.{◌≡◌, ◌≤◌, ℕ, Bool, false, IsTrue, nat_eq, if◌then◌else◌, List, [], ◌∷◌, ◌++◌, length}
 use Rattle.std.specs.Prelude.{Result, None}
+use Rattle.access_states.specs.Change.{change_between}
+use Rattle.access_states.specs.declared.change.Change.{Change}
 use Rattle.scsi_types.specs.ReplyValue.{ReplyValue}
 use Rattle.scsi_types.specs.declared.names.Group.{Group}
 use Rattle.scsi_types.specs.declared.command.Command.{Command as ScsiCommand}
 use Rattle.scsi_types.specs.declared.command.CdbFault.{CdbFault}
 use Rattle.unit_control.specs.State.{UnitState, UnitValue, failures_of, opening}
-use Rattle.unit_control.specs.Choice.{Choice}
+use Rattle.unit_control.specs.Choice.{Choice, Fine}
 use Rattle.unit_control.specs.Entry.{Entry, Attach, Detach, Reset, Move, Command}
 use Rattle.unit_state.specs.History.{state_after, IsLegal, IsReplyAt, failed_entries}
 use Rattle.unit_state.specs.Serials.{IsOpening, is_command_of}
@@ -48,6 +50,11 @@ pub record IsBehind {B R O : Type 0} (claims : Bool) (contents : B → List (Lis
   pub control : u.control ≡ (state_after s history).control
   pub blocks : IsTrue claims → contents u.device ≡ (state_after s history).blocks
   pub failed : failed_entries history ≤ failures_of failures opens_failed file_failures u
+
+-- what a move tells is what changed by it, behind this history
+abbrev pub IsMoveTold : UnitState → List Entry → List ℕ → Change → Type 0
+IsMoveTold s history list told = told ≡ change_between (state_after s history).control.access
+    (state_after s (history ++ Move list Fine ∷ [])).control.access
 
 -- a state that nothing opened in
 abbrev pub no_state : UnitState

@@ -1,4 +1,4 @@
 pub mod Histories
-pub mod Causes
+pub mod NoEntry
 pub mod RowOf
 pub mod Devices

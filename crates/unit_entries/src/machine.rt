@@ -63,7 +63,8 @@ impl<B: Blocks, F: Blocks, O: Opener<B>> Machine<Noted, Opened> for Unit<B, F, O
     ghost use Rattle.unit_entries.specs.Devices.{devices, HaveFlushed, HaveMoved, HaveWorked};
     ghost use Rattle.unit_entries.specs.Histories.{IsBehind, IsCommand, IsToldBehind};
     ghost use Rattle.unit_entries.specs.RowOf.{IsRegistryBehind};
-    ghost use Rattle.unit_entries.specs.Causes.{IsFull, IsGone, IsUnattached, IsOwner, WantsMemory, IsStay, IsMoveTold};
+    ghost use Rattle.unit_entries.specs.NoEntry.{IsFull, IsSessionGone, IsUnattached, IsOwner, TakesMemoryBehind, StaysBehind};
+    ghost use Rattle.unit_entries.specs.Histories.{IsMoveTold};
 
     type Name = Arrival;
 
@@ -104,15 +105,15 @@ impl<B: Blocks, F: Blocks, O: Opener<B>> Machine<Noted, Opened> for Unit<B, F, O
 
     ghost full = { λ s h name. IsFull s h (record { port = name.port; group = name.group }) };
 
-    ghost gone = { IsGone };
+    ghost gone = { IsSessionGone };
 
     ghost absent = { IsUnattached };
 
     ghost owner = { IsOwner };
 
-    ghost wants = { WantsMemory };
+    ghost wants = { TakesMemoryBehind };
 
-    ghost stays = { IsStay };
+    ghost stays = { StaysBehind };
 
     ghost moved = { IsMoveTold };
 

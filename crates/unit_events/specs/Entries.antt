@@ -3,7 +3,7 @@ use Rattle.std.specs.Prelude.{◌≡◌, ◌⊎◌, ℕ, ◌+◌, Bool, List, []
 use Rattle.unit_control.specs.State.{UnitState, UnitValue}
 use Rattle.unit_control.specs.Choice.{Choice}
 use Rattle.unit_control.specs.Entry.{Entry, Attach, Command}
-use Rattle.unit_entries.specs.Causes.{IsFull, IsGone, IsOwner, WantsMemory}
+use Rattle.unit_entries.specs.NoEntry.{IsFull, IsSessionGone, IsOwner, TakesMemoryBehind}
 use Rattle.unit_entries.specs.Histories.{IsBehind, IsHistory, IsToldBehind, command}
 use Rattle.unit_lock.specs.Calls.{IsCause}
 use Rattle.scsi_types.specs.Nexus.{Nexus}
@@ -44,7 +44,7 @@ module _ {B R O : Type 0} (claims : Bool) (contents : B → List (List ℕ)) (fa
       × IsToldBehind claims s h (Command id serial job.by_group job.asked job.bytes choice) reply
   IsUnitServed s h id serial job new (IsRefused why) =
       IsBehind claims contents failures opens_failed file_failures s h new
-      × IsCause (IsGone s h id) (IsOwner s h) (WantsMemory s h id job.asked job.bytes) job.by_group why
+      × IsCause (IsSessionGone s h id) (IsOwner s h) (TakesMemoryBehind s h id job.asked job.bytes) job.by_group why
 
   abbrev pub IsUnitServing : ℕ → ℕ → Job → UnitValue B R O → UnitValue B R O → End → Type 0
   IsUnitServing id serial job old new end =

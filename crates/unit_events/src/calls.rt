@@ -1,7 +1,7 @@
 //! What an event makes of one unit, whatever history the unit has.
 ghost use Rattle.std.specs.Prelude.{◌&&◌};
 ghost use Rattle.registrants.specs.Nexus.{through};
-ghost use Rattle.unit_entries.specs.Causes.{IsGone, IsStay};
+ghost use Rattle.unit_entries.specs.NoEntry.{IsSessionGone, StaysBehind};
 ghost use Rattle.unit_control.specs.Choice.{Fine};
 ghost use Rattle.unit_control.specs.Entry.{Detach, Move, Reset};
 ghost use Rattle.unit_state.specs.declared.unit.MoveFault.{MoveFault};
@@ -18,7 +18,7 @@ use unit_state::Unit;
 /// A unit ends the session with this id.
 pub fn detach_unit<B: Blocks, F: Blocks, O: Opener<B>>(unit: &mut Unit<B, F, O>, id: u64)
     ensures { IsUnitEntry (O.claims && B.claims) B.contents B.failures O.opens_failed F.failures
-        (Detach id) (λ s h. IsGone s h id) unit.old unit.new }
+        (Detach id) (λ s h. IsSessionGone s h id) unit.old unit.new }
 {
     let _is_entry = Machine::detach(unit, id);
 }
@@ -26,7 +26,7 @@ pub fn detach_unit<B: Blocks, F: Blocks, O: Opener<B>>(unit: &mut Unit<B, F, O>,
 /// The session with this id resets a unit.
 pub fn reset_unit<B: Blocks, F: Blocks, O: Opener<B>>(unit: &mut Unit<B, F, O>, id: u64)
     ensures { IsUnitEntry (O.claims && B.claims) B.contents B.failures O.opens_failed F.failures
-        (Reset id) (λ s h. IsGone s h id) unit.old unit.new }
+        (Reset id) (λ s h. IsSessionGone s h id) unit.old unit.new }
 {
     let _is_entry = Machine::reset(unit, id);
 }
@@ -34,7 +34,7 @@ pub fn reset_unit<B: Blocks, F: Blocks, O: Opener<B>>(unit: &mut Unit<B, F, O>, 
 /// A unit moves by the parameter list of a SET TARGET PORT GROUPS (SPC-4, 6.45).
 pub fn move_unit<B: Blocks, F: Blocks, O: Opener<B>>(unit: &mut Unit<B, F, O>, list: &[u8])
     ensures { IsUnitEntry (O.claims && B.claims) B.contents B.failures O.opens_failed F.failures
-        (Move list.now Fine) (λ s h. (why : MoveFault) × IsStay s h list.now why) unit.old unit.new }
+        (Move list.now Fine) (λ s h. (why : MoveFault) × StaysBehind s h list.now why) unit.old unit.new }
 {
     let _told = Machine::move_to(unit, list);
 }

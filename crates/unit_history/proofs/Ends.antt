@@ -8,7 +8,8 @@ use Rattle.unit_control.specs.Choice.{Fine}
 use Rattle.unit_control.specs.Entry.{Entry, Move}
 use Rattle.unit_control.specs.State.{UnitState}
 use Rattle.unit_history.specs.Calls.{HasMoved, HasStayed, IsLeft}
-use Rattle.unit_entries.specs.Causes.{IsMoveTold, IsStay}
+use Rattle.unit_entries.specs.NoEntry.{StaysBehind}
+use Rattle.unit_entries.specs.Histories.{IsMoveTold}
 use Rattle.unit_entries.specs.Devices.{Devices, HaveMoved, claims_of}
 use Rattle.unit_entries.specs.Histories.{IsHistory}
 
@@ -29,7 +30,7 @@ module _ {B R O : Type 0} (d : Devices B R O) (s : UnitState) (list : List ℕ) 
   has_moved (Err why) legal ends moved = tt
 
   pub has_stayed : (end : Result Change MoveFault) → IsHistory (claims_of d) s history
-      → IfErr end (λ why. IsStay s history list why)
+      → IfErr end (λ why. StaysBehind s history list why)
       → IfErr end (λ why. IsBeside (IsLeft d s) history (λ old new. HaveMoved d old new end))
       → IfErr end (λ why. HasStayed d s list history why)
   has_stayed (Ok told) legal stays kept = tt

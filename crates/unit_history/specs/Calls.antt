@@ -19,7 +19,8 @@ use Rattle.unit_control.specs.Entry.{Entry, Attach, Detach, Reset, Move}
 use Rattle.unit_entries.specs.Devices.{Devices, claims_of, HaveFlushed, HaveMoved, HaveWorked}
 use Rattle.unit_entries.specs.Histories.{IsBehind, IsHistory, IsCommand, IsToldBehind, own}
 use Rattle.unit_entries.specs.RowOf.{IsRegistryBehind, row_behind}
-use Rattle.unit_entries.specs.Causes.{IsUnattached, IsFull, IsGone, IsMoveTold, IsOwner, IsStay, WantsMemory}
+use Rattle.unit_entries.specs.NoEntry.{IsUnattached, IsFull, IsSessionGone, IsOwner, StaysBehind, TakesMemoryBehind}
+use Rattle.unit_entries.specs.Histories.{IsMoveTold}
 
 -- A session attached: its pass has seen a legal history that ends with its Attach, whose place is the session's number.
 abbrev pub HasAttached : Bool → UnitState → Nexus → Known Entry → Type 0
@@ -61,8 +62,8 @@ abbrev pub HasRefused : Bool → UnitState → Known Entry → Known Entry → G
     → Refused Group → Type 0
 HasRefused claims s before after by_group asked bytes why =
     IsRefused own (IsHistory claims s) before after
-    × IsCause (IsGone s after.seen before.session) (IsOwner s after.seen)
-    (WantsMemory s after.seen before.session asked bytes) by_group why
+    × IsCause (IsSessionGone s after.seen before.session) (IsOwner s after.seen)
+    (TakesMemoryBehind s after.seen before.session asked bytes) by_group why
 
 -- The unit was reset: the same, and the history ends with this Reset.
 abbrev pub HasReset : Bool → UnitState → Known Entry → Known Entry → Type 0
@@ -73,7 +74,7 @@ HasReset claims s before after =
 -- The session was gone: the history that its pass has seen shows it, and has no new entry of its own.
 abbrev pub WasGone : Bool → UnitState → Known Entry → Known Entry → Type 0
 WasGone claims s before after =
-    IsRefused own (IsHistory claims s) before after × IsGone s after.seen before.session
+    IsRefused own (IsHistory claims s) before after × IsSessionGone s after.seen before.session
 
 -- The session ended: this is a legal history that begins with all that its pass had seen, has no other new Command, Reset or
 -- Detach of its session, and ends with its Detach, behind which it is not attached.
@@ -92,7 +93,7 @@ pub record HasMoved {B R O : Type 0} (d : Devices B R O) (s : UnitState) (list :
 pub record HasStayed {B R O : Type 0} (d : Devices B R O) (s : UnitState) (list : List ℕ) (history : List Entry) (why : MoveFault)
     : Type 0 where
   pub legal : IsHistory (claims_of d) s history
-  pub stays : IsStay s history list why
+  pub stays : StaysBehind s history list why
   pub kept : IsBeside (IsLeft d s) history (λ old new. HaveMoved d old new (Err why))
 
 -- Two sessions have met: both passes have then seen one legal history, which begins with all that either had seen.

@@ -9,7 +9,7 @@ use Rattle.unit_control.specs.Entry.{Entry, Attach, Detach, Reset, Move, Command
 use Rattle.unit_state.specs.Serials.{IsOpening}
 use Rattle.unit_state.specs.declared.unit.MoveFault.{MoveFault}
 use Rattle.unit_entries.specs.Histories.{IsHistory, IsToldBehind}
-use Rattle.unit_entries.specs.Causes.{IsFull, IsGone, IsOwner, IsStay, WantsMemory}
+use Rattle.unit_entries.specs.NoEntry.{IsFull, IsSessionGone, IsOwner, StaysBehind, TakesMemoryBehind}
 use Rattle.world.specs.Traffic.{Traffic, at_stage, attached, begun, closed, given, collected, flush_ended, new_job, no_traffic}
 use Rattle.world.specs.Traffic.{IsBegunAgain, IsHanded, IsSubmittedAgain, IsTakenBack, posted, submitted, taken}
 use Rattle.world.specs.declared.event.Event.{Event}
@@ -60,8 +60,8 @@ module _ (claims : Bool) (units : ℕ) (opening : ℕ → UnitState) where
       × IsToldBehind claims (opening x.place) (w.past x.place) (Command x.id x.next job.by_group job.asked job.bytes choice) reply
   IsServed w x job (IsRefused why) past =
       (past ≡ w.past)
-      × IsCause (IsGone (opening x.place) (w.past x.place) x.id) (IsOwner (opening x.place) (w.past x.place))
-      (WantsMemory (opening x.place) (w.past x.place) x.id job.asked job.bytes) job.by_group why
+      × IsCause (IsSessionGone (opening x.place) (w.past x.place) x.id) (IsOwner (opening x.place) (w.past x.place))
+      (TakesMemoryBehind (opening x.place) (w.past x.place) x.id job.asked job.bytes) job.by_group why
 
   abbrev pub IsServing : Scene → ℕ → Session → Stage → Scene → Type 0
   IsServing w n x Idle new = new ≡ w
@@ -81,13 +81,13 @@ module _ (claims : Bool) (units : ℕ) (opening : ℕ → UnitState) where
       (IsFull (opening place) (w.past place) (through port group)) new
   IsStep w (events.Detach n) new =
       MatchOption (slice_get w.traffic.sessions n) (new ≡ w)
-      (λ x. IsEntry w x.place (Detach x.id) w.traffic (IsGone (opening x.place) (w.past x.place) x.id) new)
+      (λ x. IsEntry w x.place (Detach x.id) w.traffic (IsSessionGone (opening x.place) (w.past x.place) x.id) new)
   IsStep w (events.Reset n) new =
       MatchOption (slice_get w.traffic.sessions n) (new ≡ w)
-      (λ x. IsEntry w x.place (Reset x.id) w.traffic (IsGone (opening x.place) (w.past x.place) x.id) new)
+      (λ x. IsEntry w x.place (Reset x.id) w.traffic (IsSessionGone (opening x.place) (w.past x.place) x.id) new)
   IsStep w (events.Move place list) new =
       IsEntry w place (Move list Fine) w.traffic
-      ((why : MoveFault) × IsStay (opening place) (w.past place) list why) new
+      ((why : MoveFault) × StaysBehind (opening place) (w.past place) list why) new
   IsStep w (events.Submit n by_group asked bytes is_late) new =
       (job : Job) × IsHanded is_late (new_job by_group asked bytes) job
       × (new ≡ with_traffic w (given w.traffic (slice_get w.traffic.sessions n)

@@ -1,5 +1,5 @@
 use Rattle.std.proofs.Common.{◌&&◌}
-use Rattle.unit_entries.specs.Causes.{IsStay}
+use Rattle.unit_entries.specs.NoEntry.{StaysBehind}
 use Rattle.unit_control.specs.Choice.{Fine}
 use Rattle.unit_control.specs.Entry.{Move}
 use Rattle.unit_state.specs.declared.unit.MoveFault.{MoveFault}
@@ -19,6 +19,6 @@ returns g c =
     (unit_goes (g.O.Opener.claims && g.B.Blocks.claims) g.B.Blocks.contents g.B.Blocks.failures g.O.Opener.opens_failed
     g.F.Blocks.failures
     (events.Move c.args.place list) v c.args.place u.unit.now c.move_unit.new.unit (Move list Fine)
-    (λ s h. (why : MoveFault) × IsStay s h list why)
+    (λ s h. (why : MoveFault) × StaysBehind s h list why)
     (there_is v.units c.args.place u.unit.now u.ensures.item.3.0 u.ensures.item.1)
     (rw (← c.as_slice.ensures) c.move_unit.ensures) (λ opening past new is. is))

@@ -1,5 +1,5 @@
 use Rattle.std.proofs.Common.{◌&&◌}
-use Rattle.unit_entries.specs.Causes.{IsGone}
+use Rattle.unit_entries.specs.NoEntry.{IsSessionGone}
 use Rattle.unit_control.specs.Entry.{Reset}
 use Rattle.world.specs.Records.{traffic_of}
 use Rattle.world.specs.Worlds.{WorldValue}
@@ -16,6 +16,6 @@ returns g c =
     rw (← c.self.view_is)
     (unit_goes (g.O.Opener.claims && g.B.Blocks.claims) g.B.Blocks.contents g.B.Blocks.failures g.O.Opener.opens_failed
     g.F.Blocks.failures
-    (events.Reset c.args.session) v x.place u.unit.now c.reset_unit.new.unit (Reset x.id) (λ s h. IsGone s h x.id)
+    (events.Reset c.args.session) v x.place u.unit.now c.reset_unit.new.unit (Reset x.id) (λ s h. IsSessionGone s h x.id)
     (there_is v.units x.place u.unit.now u.ensures.item.3.0 u.ensures.item.1) c.reset_unit.ensures
     (λ opening past new is. rw c.in-Some.ensures is))
