@@ -8,7 +8,7 @@ use Rattle.aptpl_format.specs.declared.version.FileVersion.{FileVersion}
 use Rattle.aptpl_format.specs.declared.version.FileVersion.TheVariants.{Version2}
 use Rattle.aptpl_format.specs.Format.{first_block, other_slot, root_block, slot_block}
 use Rattle.aptpl_file.specs.Holds.{Holds, HoldsOneOf}
-use Rattle.aptpl_file.specs.Lasts.{FileValue, SlotLasts, IsDecided, IsUndecided, IsAmong, LastsAmong, EachOutcomeHolds}
+use Rattle.aptpl_file.specs.Lasts.{FileValue, SlotLasts, IsDecided, IsUndecided, AreRecordsLeft, LastsAmong, EachOutcomeHolds}
 
 -- a slot lies in the file, behind the root
 pub slot_within : (slot : Slot) (k : ℕ) → k < 33 → first_block slot + k < 67
@@ -30,7 +30,7 @@ module _ (size : ℕ) (may_hold : ℕ → List ℕ → Type 0) (disk : List (Lis
   pub decided_holds : (version : FileVersion) (slot : Slot) (r : RecordValue) → IsDecided may_hold version slot r → Holds disk r
   decided_holds version slot r d = record {
     blocks = omega (arith, left.as_long, room);
-    lasting = d.lasting;
+    lasting = d.is_record;
     version = version;
     slot = slot;
     root = d.root _ (left.each 0 (omega arith));
@@ -43,7 +43,7 @@ module _ (size : ℕ) (may_hold : ℕ → List ℕ → Type 0) (disk : List (Lis
   undecided_holds version slot r landed u = ⊎_elim
       (λ (is : block_at disk 0 ≡ root_block version slot). inl (record {
         blocks = omega (arith, left.as_long, room);
-        lasting = u.lasting;
+        lasting = u.is_record;
         version = version;
         slot = slot;
         root = is;
@@ -51,7 +51,7 @@ module _ (size : ℕ) (may_hold : ℕ → List ℕ → Type 0) (disk : List (Lis
       }))
       (λ (is : block_at disk 0 ≡ root_block Version2 (other_slot slot)). inr (record {
         blocks = omega (arith, left.as_long, room);
-        lasting = u.other_lasting;
+        lasting = u.other_is_record;
         version = Version2;
         slot = other_slot slot;
         root = is;
@@ -60,7 +60,7 @@ module _ (size : ℕ) (may_hold : ℕ → List ℕ → Type 0) (disk : List (Lis
       (u.root _ (left.each 0 (omega arith)))
 
   pub among_holds : (version : FileVersion) (slot : Slot) (undecided : Bool) (records : List RecordValue)
-      → IsAmong may_hold version slot undecided records → HoldsOneOf records disk
+      → AreRecordsLeft may_hold version slot undecided records → HoldsOneOf records disk
   among_holds version slot undecided [] among = absurd among
   among_holds version slot undecided (r ∷ []) among = inl (decided_holds version slot r among.1)
   among_holds version slot undecided (r ∷ landed ∷ []) among =

@@ -6,20 +6,20 @@ use Rattle.aptpl_format.specs.declared.slot.Slot.{Slot}
 use Rattle.aptpl_format.specs.declared.version.FileVersion.{FileVersion}
 use Rattle.aptpl_format.specs.declared.version.FileVersion.TheVariants.{Version2}
 use Rattle.aptpl_format.specs.Format.{file_blocks, first_block, other_slot, root_block}
-use Rattle.aptpl_file.specs.Lasts.{FileValue, IsAmong, LastsAmong, RootLasts, SlotLasts, first_of}
+use Rattle.aptpl_file.specs.Lasts.{FileValue, AreRecordsLeft, LastsAmong, RootLasts, SlotLasts, first_of}
 use Rattle.aptpl_file.specs.Writes.{beside_slot}
 use Rattle.aptpl_file.proofs.Stops.{decided_now, either_root, root_again, slot_beside, within_slot}
 
 -- a device that may hold no more leaves no other record
 among_within : (may new : ℕ → List ℕ → Type 0) (v : FileVersion) (slot : Slot) (undecided : Bool) (records : List RecordValue)
-    → NoMore may new → IsAmong may v slot undecided records → IsAmong new v slot undecided records
+    → NoMore may new → AreRecordsLeft may v slot undecided records → AreRecordsLeft new v slot undecided records
 among_within may new v slot undecided [] within among = absurd among
 among_within may new v slot undecided (r ∷ []) within among = (
   among.0,
   record {
     root = λ value held. among.1.root value (within 0 value held);
     spelled = λ k value lt held. among.1.spelled k value lt (within (first_block slot + k) value held);
-    lasting = among.1.lasting;
+    is_record = among.1.is_record;
   },
 )
 among_within may new v slot undecided (r ∷ landed ∷ []) within among = (
@@ -27,20 +27,20 @@ among_within may new v slot undecided (r ∷ landed ∷ []) within among = (
   record {
     root = λ value held. among.1.root value (within 0 value held);
     spelled = λ k value lt held. among.1.spelled k value lt (within (first_block slot + k) value held);
-    lasting = among.1.lasting;
+    is_record = among.1.is_record;
     other_spelled = λ k value lt held. among.1.other_spelled k value lt (within (first_block (other_slot slot) + k) value held);
-    other_lasting = among.1.other_lasting;
+    other_is_record = among.1.other_is_record;
   },
 )
 among_within may new v slot undecided (r ∷ landed ∷ x ∷ xs) within among = absurd among
 
 -- the same of a file of that version, slot and doubt
 same_file : (may : ℕ → List ℕ → Type 0) (v w : FileVersion) (a b : Slot) (x y : Bool) (records : List RecordValue)
-    → w ≡ v → b ≡ a → y ≡ x → IsAmong may v a x records → IsAmong may w b y records
+    → w ≡ v → b ≡ a → y ≡ x → AreRecordsLeft may v a x records → AreRecordsLeft may w b y records
 same_file may v w a b x y records ev es eu among =
-    subst (λ (u : Bool). IsAmong may w b u records) (sym eu)
-    (subst (λ (s : Slot). IsAmong may w s x records) (sym es)
-    (subst (λ (n : FileVersion). IsAmong may n a x records) (sym ev) among))
+    subst (λ (u : Bool). AreRecordsLeft may w b u records) (sym eu)
+    (subst (λ (s : Slot). AreRecordsLeft may w s x records) (sym es)
+    (subst (λ (n : FileVersion). AreRecordsLeft may n a x records) (sym ev) among))
 
 module _ {B : Type 0} (size : B → ℕ) (may_hold : B → ℕ → List ℕ → Type 0) (old mid : FileValue B) (records : List RecordValue)
     (lasts : LastsAmong size may_hold old records) (as_long : size mid.device ≡ size old.device)
@@ -67,12 +67,12 @@ module _ {B : Type 0} (size : B → ℕ) (may_hold : B → ℕ → List ℕ → 
         let room = lasts.blocks in let e : size here.device ≡ size mid.device = ap (λ (f : FileValue B). size f.device) same in
         omega (arith, as_long, e, room)
 
-    here_among : IsAmong (may_hold here.device) here.version here.slot false (first_of records)
-    here_among = subst (λ (f : FileValue B). IsAmong (may_hold f.device) f.version f.slot false (first_of records)) (sym same)
+    here_among : AreRecordsLeft (may_hold here.device) here.version here.slot false (first_of records)
+    here_among = subst (λ (f : FileValue B). AreRecordsLeft (may_hold f.device) f.version f.slot false (first_of records)) (sym same)
         (same_file (may_hold mid.device) old.version mid.version old.slot mid.slot false false (first_of records) version slot refl
         (decided_now (may_hold old.device) (may_hold mid.device) old.version old.slot old.undecided records lasts.among again root))
 
-    next_among : IsAmong (may_hold next) here.version here.slot false (first_of records)
+    next_among : AreRecordsLeft (may_hold next) here.version here.slot false (first_of records)
     next_among = within_slot (may_hold here.device) (may_hold next) here.version here.slot records here_among
         (subst (λ (i : Slot). NoMore (beside_slot i (may_hold here.device)) (may_hold next)) is beside)
 
@@ -103,8 +103,8 @@ module _ {B : Type 0} (size : B → ℕ) (may_hold : B → ℕ → List ℕ → 
         named = subst (λ (x : RecordValue). SlotLasts (may_hold next) Version2 (other_slot here.slot) x) spelled_as
             (subst (λ (i : Slot). SlotLasts (may_hold next) Version2 i r) is spelled)
 
-        landed : (rs : List RecordValue) → IsAmong (may_hold next) here.version here.slot false (first_of rs)
-            → IsAmong (or_new 0 (root_block Version2 (other_slot here.slot) ∷ []) (may_hold next)) here.version here.slot true
+        landed : (rs : List RecordValue) → AreRecordsLeft (may_hold next) here.version here.slot false (first_of rs)
+            → AreRecordsLeft (or_new 0 (root_block Version2 (other_slot here.slot) ∷ []) (may_hold next)) here.version here.slot true
             (first_of rs ++ saved ∷ [])
         landed [] among = absurd among
         landed (x ∷ xs) among = either_root (may_hold next) here.version here.slot x saved among named lasting
@@ -125,7 +125,7 @@ saved_lasts size may_hold next new slot undecided r saved room decided within ro
           slot_beside (may_hold next) (root_block Version2 slot) Version2 slot saved
           (subst (λ (x : RecordValue). SlotLasts (may_hold next) Version2 slot x) spelled_as spelled) k value lt
           (within (first_block slot + k) value held);
-      lasting = lasting;
+      is_record = lasting;
     },
   );
 }

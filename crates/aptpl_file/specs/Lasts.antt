@@ -21,16 +21,16 @@ pub record FileValue (B : Type 0) : Type 0 where
 
 -- ---- what the blocks may hold after a crash
 
--- the root names this version and slot, whatever a crash leaves of its block
+-- whatever a crash leaves of its block, the root names this version and slot
 abbrev pub RootLasts : (ℕ → List ℕ → Type 0) → FileVersion → Slot → Type 0
 RootLasts may_hold version slot = (value : List ℕ) → may_hold 0 value → value ≡ root_block version slot
 
--- the root names one slot, or in version 2 the other, whatever a crash leaves of its block
+-- whatever a crash leaves of its block, the root names this version and slot, or version 2 and the other slot
 abbrev pub SomeRootLasts : (ℕ → List ℕ → Type 0) → FileVersion → Slot → Type 0
 SomeRootLasts may_hold version slot = (value : List ℕ) → may_hold 0 value
     → (value ≡ root_block version slot) ⊎ (value ≡ root_block Version2 (other_slot slot))
 
--- the slot is the spelling of the record
+-- whatever a crash leaves of its blocks, the slot spells the record in this version
 abbrev pub SlotLasts : (ℕ → List ℕ → Type 0) → FileVersion → Slot → RecordValue → Type 0
 SlotLasts may_hold version slot r = (k : ℕ) (value : List ℕ) → k < slot_blocks
     → may_hold (first_block slot + k) value → value ≡ slot_block version r k
@@ -40,33 +40,34 @@ pub record IsDecided (may_hold : ℕ → List ℕ → Type 0) (version : FileVer
   where
     pub root : RootLasts may_hold version slot
     pub spelled : SlotLasts may_hold version slot r
-    pub lasting : IsRecord r.aptpl r.registrants r.reservation
+    pub is_record : IsRecord r.aptpl r.registrants r.reservation
 
--- the root names one slot or the other, and each holds its record
-pub record IsUndecided (may_hold : ℕ → List ℕ → Type 0) (version : FileVersion) (slot : Slot) (r landed : RecordValue)
+-- the root names one slot or the other; the first holds `r` in this version, the other holds `other` in version 2
+pub record IsUndecided (may_hold : ℕ → List ℕ → Type 0) (version : FileVersion) (slot : Slot) (r other : RecordValue)
     : Type 0 where
   pub root : SomeRootLasts may_hold version slot
   pub spelled : SlotLasts may_hold version slot r
-  pub lasting : IsRecord r.aptpl r.registrants r.reservation
-  pub other_spelled : SlotLasts may_hold Version2 (other_slot slot) landed
-  pub other_lasting : IsRecord landed.aptpl landed.registrants landed.reservation
+  pub is_record : IsRecord r.aptpl r.registrants r.reservation
+  pub other_spelled : SlotLasts may_hold Version2 (other_slot slot) other
+  pub other_is_record : IsRecord other.aptpl other.registrants other.reservation
 
 -- ---- the records that a crash may leave
 
--- One record. After a save whose root may have landed there are two: that of the slot that the root named before, and the one that was
--- to be saved.
-abbrev pub IsAmong : (ℕ → List ℕ → Type 0) → FileVersion → Slot → Bool → List RecordValue → Type 0
-IsAmong may_hold version slot undecided [] = ⊥
-IsAmong may_hold version slot undecided (r ∷ []) = (undecided ≡ false) × IsDecided may_hold version slot r
-IsAmong may_hold version slot undecided (r ∷ landed ∷ []) =
-    (undecided ≡ true) × IsUndecided may_hold version slot r landed
-IsAmong may_hold version slot undecided (r ∷ landed ∷ x ∷ xs) = ⊥
+-- These are all records that a crash may leave, and the blocks hold them so: one record, or two after a save that failed at its root,
+-- which may have come to the disk all the same. The first of the two is that of the slot that the root named before that save, the
+-- other the one that it was to save.
+abbrev pub AreRecordsLeft : (ℕ → List ℕ → Type 0) → FileVersion → Slot → Bool → List RecordValue → Type 0
+AreRecordsLeft may_hold version slot undecided [] = ⊥
+AreRecordsLeft may_hold version slot undecided (r ∷ []) = (undecided ≡ false) × IsDecided may_hold version slot r
+AreRecordsLeft may_hold version slot undecided (r ∷ other ∷ []) =
+    (undecided ≡ true) × IsUndecided may_hold version slot r other
+AreRecordsLeft may_hold version slot undecided (r ∷ other ∷ x ∷ xs) = ⊥
 
 -- A crash of the file's device leaves one of these records, and the file knows where.
 pub record LastsAmong {B : Type 0} (size : B → ℕ) (may_hold : B → ℕ → List ℕ → Type 0) (file : FileValue B)
     (records : List RecordValue) : Type 0 where
   pub blocks : file_blocks ≤ size file.device
-  pub among : IsAmong (may_hold file.device) file.version file.slot file.undecided records
+  pub among : AreRecordsLeft (may_hold file.device) file.version file.slot file.undecided records
 
 -- each outcome of a crash holds one of these records
 abbrev pub EachOutcomeHolds : ℕ → (ℕ → List ℕ → Type 0) → List RecordValue → Type 0
@@ -80,13 +81,15 @@ abbrev pub first_of : List RecordValue → List RecordValue
 first_of [] = []
 first_of (r ∷ rs) = r ∷ []
 
--- what a crash may leave after a save of this record that failed at this place
-abbrev pub left_by : SaveFault → List RecordValue → RecordValue → List RecordValue
-left_by OldRoot records saved = records
-left_by IdleSlot records saved = first_of records
-left_by NewRoot records saved = first_of records ++ saved ∷ []
+-- What a crash may leave after a save of the record `saved` that failed at this step, where it might leave `records` before: all of
+-- them at the old root, which was to be written again; the first at the slot that the root does not name; the first or `saved` at the
+-- new root.
+abbrev pub left_by_fault : SaveFault → List RecordValue → RecordValue → List RecordValue
+left_by_fault OldRoot records saved = records
+left_by_fault IdleSlot records saved = first_of records
+left_by_fault NewRoot records saved = first_of records ++ saved ∷ []
 
--- calls inside which a stop leaves one of these records
-abbrev pub StopsAt : {D : Type 0} → (D → ℕ) → (D → ℕ → List (List ℕ) → Type 0) → List RecordValue → D → D → Type 0
-StopsAt moment left_since records old new =
+-- wherever a stop comes between these two states of the device, the blocks hold one of these records then
+abbrev pub StopLeavesOneOf : {D : Type 0} → (D → ℕ) → (D → ℕ → List (List ℕ) → Type 0) → List RecordValue → D → D → Type 0
+StopLeavesOneOf moment left_since records old new =
     Elapses (moment old) (moment new) (left_since old) (left_since new) (HoldsOneOf records)

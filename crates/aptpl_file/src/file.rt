@@ -45,7 +45,7 @@ impl<B: Blocks> RegFile<B> {
     ghost use Rattle.aptpl_file.specs.Holds.{Holds, IsRefusal};
     ghost use Rattle.aptpl_format.specs.Format.{root_block};
     ghost use Rattle.aptpl_file.specs.Formatting.{nothing, FailsAt, IsFormatted, StopsInFormat};
-    ghost use Rattle.aptpl_file.specs.Lasts.{LastsAmong, RootLasts, StopsAt, left_by};
+    ghost use Rattle.aptpl_file.specs.Lasts.{LastsAmong, RootLasts, StopLeavesOneOf, left_by_fault};
 
     /// Makes a registration file of nothing on a device of at least 67 blocks: writes the first slot and makes it last,
     /// and then the root that names it. Refused, it drops the device.
@@ -118,10 +118,10 @@ impl<B: Blocks> RegFile<B> {
         ensures saved { IsTrue B.claims → OnOk result (LastsAmong B.size B.may_hold self.new (saved.now ∷ [])) }
         ensures failed { IsTrue B.claims → IfErr result (λ fault. (records : List RecordValue)
             → LastsAmong B.size B.may_hold self.old records
-            → LastsAmong B.size B.may_hold self.new (left_by fault records saved.now)) }
+            → LastsAmong B.size B.may_hold self.new (left_by_fault fault records saved.now)) }
         ensures stop { IsTrue B.claims → IsTrue B.claims_moments → (records : List RecordValue)
             → LastsAmong B.size B.may_hold self.old records
-            → StopsAt B.moment B.left_since (saved.now ∷ records) self.old.device self.new.device }
+            → StopLeavesOneOf B.moment B.left_since (saved.now ∷ records) self.old.device self.new.device }
         ensures failures { Counts (B.failures self.old.device) (B.failures self.new.device) result }
     {
         let aptpl = saved.aptpl();

@@ -11,7 +11,7 @@ pub fn one_record_is_held()
     ensures { (disk : List (List ℕ)) (r s : RecordValue) → Holds disk r → Holds disk s → r ≡ s }
 {}
 
-/// A crash of a file's device leaves a disk that holds one of the records that `LastsAmong` names.
+/// `LastsAmong` names the records that a crash of a file's device may leave: each disk that it leaves holds one of them.
 pub fn each_outcome_holds_one_of_them<B: Blocks>()
     ensures { (file : FileValue B) (records : List RecordValue) → LastsAmong B.size B.may_hold file records
         → EachOutcomeHolds (B.size file.device) (B.may_hold file.device) records }

@@ -23,7 +23,7 @@ use Rattle.unit_control.specs.Entry.{control_with, left_control, count_command, 
 use Rattle.unit_state.specs.History.{state_after, IsLegal}
 use Rattle.unit_control.specs.Medium.{Finding, MayFind, WriteError, left, work_of}
 use Rattle.unit_control.specs.Refusal.{Request, request, refusal, refusal_reply, access_by, attention_rule, conflict_rule, field_rule, list_rule, opcode_rule}
-use Rattle.unit_control.specs.Refusal.{outside, saved_rule, state_for}
+use Rattle.unit_control.specs.Refusal.{past_end_by, saved_rule, state_for}
 use Rattle.unit_entries.specs.Histories.{IsHistory, IsToldBehind}
 use Rattle.late_flushes.specs.Flushes.{Flushing, writes, compares, synchronizes, asked_by, served_by, HasLateFlush, IsTold, IsUnflushed}
 
@@ -110,8 +110,8 @@ inside_same total lba blocks =
         (λ (no : total ≤ lba). and_left (nat_lt lba total) (nat_le (lba + blocks) total) (le-ltb lba total no))
         (cases_lt lba total)
 
-outside_same : (total lba blocks : ℕ) → outside total (record { lba = lba; blocks = blocks })
-    ≡ outside total (record { lba = lba + (blocks - 1); blocks = 0 })
+outside_same : (total lba blocks : ℕ) → past_end_by total (record { lba = lba; blocks = blocks })
+    ≡ past_end_by total (record { lba = lba + (blocks - 1); blocks = 0 })
 outside_same total lba blocks =
     ap (λ (inside : Bool). cond inside None (Some (Check lba_out_of_range))) (inside_same total lba blocks)
 
@@ -133,7 +133,7 @@ module _ (c : ControlValue) (session : ℕ) (bytes : List ℕ) where
   refusal_same (compares lba blocks) = refl
   refusal_same (synchronizes lba blocks) =
       let r = served (synchronizes lba blocks) in
-      ap (λ (access : Option Refusal). by_two r access (outside c.total (record { lba = lba; blocks = blocks })))
+      ap (λ (access : Option Refusal). by_two r access (past_end_by c.total (record { lba = lba; blocks = blocks })))
       (access_same (state_for c session))
       ∙ ap (λ (range : Option Refusal). by_two r (access_by (state_for c session) (Some ops.Write)) range)
       (outside_same c.total lba blocks)

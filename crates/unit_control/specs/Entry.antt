@@ -19,14 +19,14 @@ use Rattle.scsi_types.specs.declared.command.Command.TheVariants as commands
 use Rattle.scsi_types.specs.declared.command.CdbFault.{CdbFault}
 use Rattle.unit_control.specs.declared.refusal.Refusal.{Refusal}
 use Rattle.unit_control.specs.Limits.{last_length, most_sessions}
-use Rattle.unit_control.specs.State.{ControlValue, UnitState}
+use Rattle.unit_control.specs.State.{ControlValue, UnitState, tell}
 use Rattle.unit_control.specs.Sessions.{attached, session_of, next_of, sender_of, first_pending, command_counted, ended}
 use Rattle.unit_control.specs.Sessions.{all_reset, without}
 use Rattle.unit_control.specs.Groups.{IsTaken, set_by, move_by, is_opening, after_change, report_by}
 use Rattle.unit_control.specs.Reserve.{MayFailToSave, pr_out, effect_by, after_saved, saved_reply, in_data}
 use Rattle.unit_control.specs.Choice.{Choice, Fine, ReadFailed, WriteFailed, OpenFailed, SaveFailed}
 use Rattle.unit_control.specs.Medium.{Work, Finding, work_asked, MayChoose, MayFind, IsTorn, found, left, reply_by}
-use Rattle.unit_control.specs.Refusal.{Request, request, refusal, refusal_reply, refusal_control, tell}
+use Rattle.unit_control.specs.Refusal.{Request, request, refusal, refusal_reply, refusal_control}
 
 -- A session attaches, or ends; one resets the unit (SAM-5, logical unit reset); the unit moves, by itself, as a
 -- parameter list of SET TARGET PORT GROUPS says; or a command of a session is served: its serial in the session, the

@@ -27,8 +27,8 @@ use Rattle.unit_control.specs.declared.refusal.Refusal.{Refusal}
 use Rattle.scsi_types.specs.declared.pages.PageControl.{PageControl}
 use Rattle.scsi_types.specs.declared.pages.PageControl.TheVariants.{Current, Changeable, Default, Saved}
 use Rattle.unit_control.specs.declared.refusal.Refusal.TheVariants.{Attention, Conflict, Check}
-use Rattle.unit_control.specs.State.{ControlValue}
-use Rattle.unit_control.specs.Sessions.{first_pending, sender_of, told}
+use Rattle.unit_control.specs.State.{ControlValue, tell}
+use Rattle.unit_control.specs.Sessions.{first_pending, sender_of}
 use Rattle.unit_control.specs.Groups.{set_by}
 use Rattle.unit_control.specs.Ops.{ParameterList, NoList, ReserveList, GroupsList, kind_asked, list_asked}
 use Rattle.unit_control.specs.Ops.{access_of, passes_attention}
@@ -49,10 +49,6 @@ abbrev pub refusal_reply : Refusal → ReplyValue
 refusal_reply (Attention attention) = check (attention_sense attention)
 refusal_reply Conflict = conflict
 refusal_reply (Check s) = check s
-
--- the session was told its first attention
-abbrev pub tell : ControlValue → ℕ → ControlValue
-tell c session = record c { sessions = told c.sessions session }
 
 -- what a refusal changes: an attention that is told with it is pending no more; else nothing
 abbrev pub refusal_control : ControlValue → ℕ → Refusal → ControlValue
@@ -87,13 +83,14 @@ abbrev pub access_by : AccessState → Option Op → Option Refusal
 access_by state None = None
 access_by state (Some op) = option_map Check (refusal_in state op)
 
+-- the access state of the group by which the session's commands come
 abbrev pub state_for : ControlValue → ℕ → AccessState
 state_for c session = (group_access c.access (sender_of c.sessions session).group).state
 
 abbrev pub access_rule : Rule
 access_rule c r = access_by (state_for c r.session) (kind_asked r.asked)
 
--- whether the reservation lets the nexus do this (SPC-4, 5.13.1)
+-- The reservation does not let the nexus do to the medium what the command does (SPC-4, 5.13.1). First whether it does.
 abbrev pub is_let : ControlValue → Nexus → Access → Bool
 is_let c nexus access = is_let_through c.registry.reservation (party_of c.registry nexus) access
 
@@ -104,8 +101,8 @@ conflict_by false = Some Conflict
 abbrev pub conflict_rule : Rule
 conflict_rule c r = conflict_by (is_let c (sender_of c.sessions r.session) (access_of (kind_asked r.asked)))
 
--- A field of the CDB is bad, such as more blocks than the command may have, which `decode` finds too and which holds here of any command
--- that is handed in; or less data came than the command needs.
+-- A field of the CDB is bad, or less data came than the command needs. `decode` gives no command with more blocks than it may have, so
+-- `is_too_long` holds of none that it gives: it refuses one that is handed in without a CDB.
 abbrev pub field_by : Result Command CdbFault → List ℕ → Option Refusal
 field_by (Ok command) bytes =
     if nat_lt (length bytes) (need_of (Ok command)) || is_too_long (work_of command bytes) then Some (Check invalid_field_in_cdb) else None
@@ -147,12 +144,12 @@ abbrev pub saved_rule : Rule
 saved_rule c r = if asks_saved r.asked then Some (Check saving_parameters_not_supported) else None
 
 -- the LBA or the range passes the end, the LBA of an empty range too (SBC-3, READ (10) command)
-abbrev pub outside : ℕ → Range → Option Refusal
-outside total r = if nat_lt r.lba total && nat_le (r.lba + r.blocks) total then None else Some (Check lba_out_of_range)
+abbrev pub past_end_by : ℕ → Range → Option Refusal
+past_end_by total r = if nat_lt r.lba total && nat_le (r.lba + r.blocks) total then None else Some (Check lba_out_of_range)
 
 abbrev pub range_by : ℕ → Option Range → Option Refusal
 range_by total None = None
-range_by total (Some r) = outside total r
+range_by total (Some r) = past_end_by total r
 
 abbrev pub range_rule : Rule
 range_rule c r = range_by c.total (range_of (work_asked r.asked r.bytes))
@@ -166,22 +163,25 @@ abbrev pub groups_list_by : Result AccessMapValue AsetFault → Option Refusal
 groups_list_by (Ok new) = None
 groups_list_by (Err fault) = Some (Check (fault_sense fault))
 
+-- the parameter list of a command is none that it may have; a command without one has nothing to refuse
 abbrev pub refused_list : ControlValue → ParameterList → List ℕ → Option Refusal
 refused_list c NoList bytes = None
 refused_list c (ReserveList list_length) bytes = reserve_list_by list_length
 refused_list c (GroupsList list_length) bytes = groups_list_by (set_by c list_length bytes)
 
+-- the same of what was asked, where a CDB of no command has no list
 abbrev pub list_by : ControlValue → Result Command CdbFault → List ℕ → Option Refusal
 list_by c asked bytes = refused_list c (list_asked asked) bytes
 
 abbrev pub list_rule : Rule
 list_rule c r = list_by c r.asked r.bytes
 
--- the rules in their order: the first one that refuses answers
+-- the rules in their order, which `docs/PROFILE.md` has as a table, "Status and sense, in order", lines 2 to 9
 abbrev pub rules_of_unit : List Rule
 rules_of_unit =
     attention_rule ∷ opcode_rule ∷ access_rule ∷ conflict_rule ∷ field_rule ∷ saved_rule ∷ range_rule ∷ list_rule ∷ []
 
+-- the first rule that refuses answers
 abbrev pub first_refusal : List Rule → ControlValue → Request → Option Refusal
 first_refusal [] c r = None
 first_refusal (rule ∷ rules) c r = option_or (rule c r) (first_refusal rules c r)
@@ -196,7 +196,7 @@ pub record IsJudged (c : ControlValue) (session : ℕ) (asked : Result Command C
   pub kind : kind_asked asked ≡ Some op
 
 -- The ports of the session's group may not serve a command that is judged so.
-pub record IsUnserved (c : ControlValue) (session : ℕ) (asked : Result Command CdbFault) (op : Op)
+pub record IsNotServed (c : ControlValue) (session : ℕ) (asked : Result Command CdbFault) (op : Op)
     (s : Sense) : Type 0 where
   pub judged : IsJudged c session asked op
   pub not_served : refusal_in (state_for c session) op ≡ Some s

@@ -8,6 +8,7 @@ use Rattle.scsi_types.specs.declared.names.Place.{Place}
 use Rattle.aptpl_file.specs.Lasts.{FileValue}
 use Rattle.registrants.specs.Registry.{RecordValue, RegistryValue, powered_on}
 use Rattle.unit_control.specs.declared.sessions.Attached.{Attached}
+use Rattle.unit_control.specs.Sessions.{told}
 
 -- all of a unit but its blocks
 pub record ControlValue : Type 0 where
@@ -26,6 +27,10 @@ pub record ControlValue : Type 0 where
   pub sessions : List Attached
   -- the number of entries so far
   pub count : ℕ
+
+-- the session was told its first attention
+abbrev pub tell : ControlValue → ℕ → ControlValue
+tell c session = record c { sessions = told c.sessions session }
 
 -- the unit model: the blocks have 512 bytes each
 pub record UnitState : Type 0 where

@@ -100,13 +100,13 @@ impl Model for Control {
 
 impl Control {
     ghost use Rattle.scsi_types.specs.Nexus.{Nexus};
-    ghost use Rattle.unit_control.specs.State.{opening_control};
+    ghost use Rattle.unit_control.specs.State.{opening_control, tell};
     ghost use Rattle.unit_control.specs.Entry.{Attach, Detach, Reset, HasRoom, IsAttached, control_after};
     ghost use Rattle.unit_control.specs.Entry.{count_command, count_one};
     ghost use Rattle.unit_control.specs.Groups.{with_access};
     ghost use Rattle.unit_control.specs.Places.{Stays, StaysAll};
-    ghost use Rattle.unit_control.specs.Refusal.{is_let, tell};
-    ghost use Rattle.aptpl_file.specs.Lasts.{left_by};
+    ghost use Rattle.unit_control.specs.Refusal.{is_let};
+    ghost use Rattle.aptpl_file.specs.Lasts.{left_by_fault};
     ghost use Rattle.reservations.specs.Notice.{tellings};
     ghost use Rattle.registrants.specs.Registry.{to_last};
     ghost use Rattle.reservations.specs.Table.{Done};
@@ -350,7 +350,7 @@ impl Control {
     /// A save of the record to last of such a registry has failed. Takes no memory.
     pub fn fail(&mut self, fault: SaveFault, scratch: &mut Registry)
         ensures ever { 0 < length self.old.lasting }
-        ensures failed { self.new ≡ with_doubt self.old (left_by fault self.old.lasting (to_last scratch.old)) }
+        ensures failed { self.new ≡ with_doubt self.old (left_by_fault fault self.old.lasting (to_last scratch.old)) }
         ensures stays { StaysAll self.old self.new }
     {
         match fault {

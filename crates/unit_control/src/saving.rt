@@ -1,7 +1,7 @@
 //! PERSISTENT RESERVE OUT with the save that it needs (SPC-4, 5.13.5): what is to outlast a loss of power is saved before
 //! the registrations change.
 ghost use Rattle.std.specs.Prelude.{◌≡◌, ◌++◌, ℕ, List, IsTrue};
-ghost use Rattle.aptpl_file.specs.Lasts.{LastsAmong, StopsAt};
+ghost use Rattle.aptpl_file.specs.Lasts.{LastsAmong, StopLeavesOneOf};
 ghost use Rattle.block_file.specs.Failures.{Tells};
 ghost use Rattle.unit_control.specs.Choice.{IsFine, choice_of};
 ghost use Rattle.unit_control.specs.Counts.{AreCounted, counters};
@@ -36,7 +36,7 @@ pub fn reserve<F: Blocks>(
         → LastsAmong F.size F.may_hold file.new control.new.lasting }
     ensures stop { IsTrue F.claims → IsTrue F.claims_moments
         → LastsAmong F.size F.may_hold file.old control.old.lasting
-        → StopsAt F.moment F.left_since (saved_by (effect_by control.old sender.session asked) ++ control.old.lasting)
+        → StopLeavesOneOf F.moment F.left_since (saved_by (effect_by control.old sender.session asked) ++ control.old.lasting)
         file.old.device file.new.device }
     ensures access { control.new.access ≡ control.old.access }
     ensures counted { (blocks : List (List ℕ)) (reads writes opens : ℕ) → AreCounted

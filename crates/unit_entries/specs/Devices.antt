@@ -3,7 +3,7 @@
 use Rattle.std.specs.Prelude.{◌≡◌, ◌≢◌, ◌++◌, ◌&&◌, ℕ, Bool, false, IsTrue, List, Result, OnOk}
 use Rattle.access_states.specs.AccessMap.{owner_of}
 use Rattle.access_states.specs.declared.change.Change.{Change}
-use Rattle.aptpl_file.specs.Lasts.{EachOutcomeHolds, StopsAt}
+use Rattle.aptpl_file.specs.Lasts.{EachOutcomeHolds, StopLeavesOneOf}
 use Rattle.block_file.specs.Disk.{Only}
 use Rattle.block_file.specs.Failures.{Counts}
 use Rattle.block_file.specs.declared.blocks.Blocks as device
@@ -65,7 +65,7 @@ module _ {B R O : Type 0} (d : Devices B R O) where
     -- that is saved
     pub restart : IsTrue d.file.claims
         → EachOutcomeHolds (d.file.size new.file.device) (d.file.may_hold new.file.device) new.control.lasting
-    pub stop : IsTrue d.file.claims → IsTrue d.file.claims_moments → StopsAt d.file.moment d.file.left_since
+    pub stop : IsTrue d.file.claims → IsTrue d.file.claims_moments → StopLeavesOneOf d.file.moment d.file.left_since
         (saved_with (refusal old.control (request session asked bytes)) old.control (request session asked bytes)
         ++ old.control.lasting) old.file.device new.file.device
     -- a command that a rule refuses does not reach the blocks; no other than PERSISTENT RESERVE OUT reaches the file

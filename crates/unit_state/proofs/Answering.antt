@@ -2,7 +2,7 @@
 use Rattle.std.proofs.Common.{◌≡◌, ◌≢◌, ℕ, ◌+◌, ◌<◌, Bool, List, Option, Some, None, Ok, Err, Result, IfOk, OnErr, refl, sym, subst, ap, arith}
 use Rattle.std.specs.Prelude.{◌&&◌, ◌++◌, false, true, IsTrue}
 use Rattle.access_states.specs.AccessMap.{AccessMapValue, owner_of}
-use Rattle.aptpl_file.specs.Lasts.{FileValue, LastsAmong, StopsAt}
+use Rattle.aptpl_file.specs.Lasts.{FileValue, LastsAmong, StopLeavesOneOf}
 use Rattle.block_file.specs.Failures.{Tells}
 use Rattle.block_file.specs.declared.blocks.Blocks as device
 use Rattle.block_file.specs.declared.opener.Opener as opening
@@ -213,7 +213,7 @@ module _ {B R O : Type 0} (blocks : device.Ghosts B) (registrations : device.Gho
         → now.access ≡ c.access
         → (IsTrue registrations.claims → IsTrue registrations.claims_moments
         → LastsAmong registrations.size registrations.may_hold before c.lasting
-        → StopsAt registrations.moment registrations.left_since (saved_of c session command bytes ++ c.lasting)
+        → StopLeavesOneOf registrations.moment registrations.left_since (saved_of c session command bytes ++ c.lasting)
         before.device after.device)
         → HasLeft blocks registrations opens None (request session (Ok command) bytes) at
         (unit_from d o before c) (unit_from d o after now)

@@ -34,7 +34,7 @@ use Rattle.unit_control.specs.Reserve.{HasList}
 use Rattle.unit_control.specs.Refusal.{Request, request, refusal, refusal_reply, attention_by, attention_rule}
 use Rattle.unit_control.specs.Refusal.{conflict_by, conflict_rule, opcode_by, opcode_rule, access_by}
 use Rattle.unit_control.specs.Refusal.{access_rule, state_for, field_by, field_rule, saved_rule, range_rule}
-use Rattle.unit_control.specs.Refusal.{range_by, outside, asks_saved, groups_list_by, list_by, list_rule}
+use Rattle.unit_control.specs.Refusal.{range_by, past_end_by, asks_saved, groups_list_by, list_by, list_rule}
 use Rattle.unit_control.specs.Route.{IsAdmitted, IsRefused}
 
 -- ---- no refusal tells of a failure
@@ -206,7 +206,7 @@ asks_something c session asked bytes fault none is =
 
 -- ---- what lets a command through
 
-pub within : (total : ℕ) (r : Range) → outside total r ≡ None → r.lba + r.blocks ≤ total
+pub within : (total : ℕ) (r : Range) → past_end_by total r ≡ None → r.lba + r.blocks ≤ total
 within total r h = grind (arith, nat_tests)
 
 not_if : (test : Bool) (a : Refusal) → (if test then Some a else None) ≡ None → test ≡ false

@@ -2,7 +2,7 @@
 use Rattle.std.proofs.Common.{◌≡◌, inl, ℕ, Bool, false, List, ◌++◌, Option, Some, None, refl, sym, subst, arith}
 use Rattle.std.specs.Prelude.{IsTrue}
 use Rattle.aptpl_file.specs.Holds.{HoldsOneOf}
-use Rattle.aptpl_file.specs.Lasts.{LastsAmong, StopsAt}
+use Rattle.aptpl_file.specs.Lasts.{LastsAmong, StopLeavesOneOf}
 use Rattle.block_file.specs.Disk.{NoMore}
 use Rattle.block_file.proofs.MomentLaws.{no_time}
 use Rattle.compare_write.specs.declared.end.MediumEnd.{MediumEnd}
@@ -119,23 +119,23 @@ pub stop_seen : {B R O : Type 0} (claims moments : Bool) (moment : R → ℕ) (l
     (size : R → ℕ) (may_hold : R → ℕ → List ℕ → Type 0) (inside seen : UnitValue B R O) (r : Request) (new : R)
     → inside ≡ seen
     → (IsTrue claims → IsTrue moments → LastsAmong size may_hold inside.file inside.control.lasting
-    → StopsAt moment left_since (saved_with (refusal inside.control r) inside.control r ++ inside.control.lasting)
+    → StopLeavesOneOf moment left_since (saved_with (refusal inside.control r) inside.control r ++ inside.control.lasting)
     inside.file.device new)
     → (IsTrue claims → LastsAmong size may_hold inside.file inside.control.lasting) → IsTrue claims → IsTrue moments
-    → StopsAt moment left_since (saved_with (refusal seen.control r) seen.control r ++ seen.control.lasting)
+    → StopLeavesOneOf moment left_since (saved_with (refusal seen.control r) seen.control r ++ seen.control.lasting)
     seen.file.device new
 stop_seen {B = B} {R = R} {O = O} claims moments moment left_since size may_hold inside seen r new same stop lasts h m =
-    subst (λ (u : UnitValue B R O). StopsAt moment left_since (saved_with (refusal u.control r) u.control r
+    subst (λ (u : UnitValue B R O). StopLeavesOneOf moment left_since (saved_with (refusal u.control r) u.control r
     ++ u.control.lasting) u.file.device new) same (stop h m (lasts h))
 
 module _ {D : Type 0} (moment : D → ℕ) (left_since : D → ℕ → List (List ℕ) → Type 0) where
-  pub no_stop : (records : List RecordValue) (old new : D) → new ≡ old → StopsAt moment left_since records old new
+  pub no_stop : (records : List RecordValue) (old new : D) → new ≡ old → StopLeavesOneOf moment left_since records old new
   no_stop records old new same = rw same (no_time (moment old) (left_since old) (HoldsOneOf records))
 
   pub reserved_stop : (c : ControlValue) (session : ℕ) (command : Command) (action : PrOutAction) (scope kind n : ℕ)
       (bytes : List ℕ) (asked : PrOut) (old new : D) → command ≡ PersistentReserveOut action scope kind n
       → asked ≡ pr_out action scope kind bytes
-      → StopsAt moment left_since (saved_by (effect_by c session asked) ++ c.lasting) old new
-      → StopsAt moment left_since (saved_of c session command bytes ++ c.lasting) old new
+      → StopLeavesOneOf moment left_since (saved_by (effect_by c session asked) ++ c.lasting) old new
+      → StopLeavesOneOf moment left_since (saved_of c session command bytes ++ c.lasting) old new
   reserved_stop c session command action scope kind n bytes asked old new is same stop =
-      rw is (subst (λ (q : PrOut). StopsAt moment left_since (saved_by (effect_by c session q) ++ c.lasting) old new) same stop)
+      rw is (subst (λ (q : PrOut). StopLeavesOneOf moment left_since (saved_by (effect_by c session q) ++ c.lasting) old new) same stop)

@@ -2,7 +2,7 @@
 -- when there is none. Each is said of the unit before the command and behind it, and of the rule that refused it, if one did.
 use Rattle.std.specs.Prelude.{◌≡◌, ◌≢◌, ◌++◌, ◌&&◌, ℕ, false, IsTrue, Option, None}
 use Rattle.access_states.specs.AccessMap.{owner_of}
-use Rattle.aptpl_file.specs.Lasts.{LastsAmong, StopsAt}
+use Rattle.aptpl_file.specs.Lasts.{LastsAmong, StopLeavesOneOf}
 use Rattle.block_file.specs.Failures.{Tells}
 use Rattle.block_file.specs.declared.blocks.Blocks as device
 use Rattle.block_file.specs.declared.opener.Opener as opening
@@ -57,7 +57,7 @@ module _ {B R O : Type 0} (blocks : device.Ghosts B) (registrations : device.Gho
     -- a power loss inside the command leaves a record of registrations that the unit said before, or the one that it saves
     pub stop : IsTrue registrations.claims → IsTrue registrations.claims_moments
         → LastsAmong registrations.size registrations.may_hold old.file old.control.lasting
-        → StopsAt registrations.moment registrations.left_since (saved_with refused old.control r ++ old.control.lasting)
+        → StopLeavesOneOf registrations.moment registrations.left_since (saved_with refused old.control r ++ old.control.lasting)
         old.file.device new.file.device
 
   -- What the reply tells: its status, its sense and its data.

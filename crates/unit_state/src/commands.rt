@@ -15,8 +15,8 @@ ghost use Rattle.scsi_types.specs.declared.reservation.PrOutAction.{PrOutAction}
 ghost use Rattle.unit_control.specs.Reserve.{HasList};
 ghost use Rattle.unit_control.specs.Sessions.{first_pending};
 ghost use Rattle.unit_control.specs.Places.{IsPlaceOf, Stays};
-ghost use Rattle.unit_control.specs.Refusal.{refusal, refusal_control, request, tell};
-ghost use Rattle.unit_control.specs.State.{unit_of};
+ghost use Rattle.unit_control.specs.Refusal.{refusal, refusal_control, request};
+ghost use Rattle.unit_control.specs.State.{tell, unit_of};
 ghost use Rattle.unit_state.specs.Answered.{HasLeft, HasReplied, LacksMemory, unit_over};
 ghost use Rattle.unit_state.specs.Step.{MayTake, is_describing};
 

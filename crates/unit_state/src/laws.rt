@@ -25,7 +25,7 @@ ghost use Rattle.unit_control.specs.Ops.{kind_asked, passes_attention};
 ghost use Rattle.reservations.specs.declared.request.PrOut.{PrOut};
 ghost use Rattle.scsi_types.specs.declared.command.Op.{Op};
 ghost use Rattle.scsi_types.specs.declared.sense.Sense.{Sense};
-ghost use Rattle.unit_control.specs.Refusal.{IsKeptOut, IsUnserved};
+ghost use Rattle.unit_control.specs.Refusal.{IsKeptOut, IsNotServed};
 ghost use Rattle.unit_control.specs.Reserve.{after_effect, effect_by};
 ghost use Rattle.unit_control.specs.Sessions.{session_of, first_pending, last_nexus, pending_of};
 ghost use Rattle.unit_control.specs.State.{ControlValue, UnitState, opening_control, preferred};
@@ -137,15 +137,15 @@ pub fn an_attention_is_told_once()
 pub fn a_group_serves_what_its_state_lets()
     ensures reply { (s : UnitState) (session serial : ℕ) (by : Group) (asked : Result ScsiCommand CdbFault)
         (bytes : List ℕ) (op : Op) (sense : Sense)
-        → IsUnserved s.control session asked op sense
+        → IsNotServed s.control session asked op sense
         → reply_to s (Command session serial by asked bytes Fine) ≡ Some (check sense) }
     ensures blocks { (s : UnitState) (session serial : ℕ) (by : Group) (asked : Result ScsiCommand CdbFault)
         (bytes : List ℕ) (op : Op) (sense : Sense)
-        → IsUnserved s.control session asked op sense
+        → IsNotServed s.control session asked op sense
         → blocks_after s (Command session serial by asked bytes Fine) ≡ s.blocks }
     ensures control { (s : UnitState) (session serial : ℕ) (by : Group) (asked : Result ScsiCommand CdbFault)
         (bytes : List ℕ) (op : Op) (sense : Sense)
-        → IsUnserved s.control session asked op sense
+        → IsNotServed s.control session asked op sense
         → control_after s.control (Command session serial by asked bytes Fine) ≡ count_command s.control session }
 {}
 

@@ -7,7 +7,7 @@ ghost use Rattle.unit_control.specs.Places.{IsPlaceOf};
 ghost use Rattle.unit_control.specs.Groups.{set_by};
 ghost use Rattle.unit_control.specs.Refusal.{access_by, attention_by, conflict_by, field_by, groups_list_by};
 ghost use Rattle.unit_control.specs.Refusal.{is_let, list_by};
-ghost use Rattle.unit_control.specs.Refusal.{asks_saved, is_saved, opcode_by, outside, range_by, refusal, request};
+ghost use Rattle.unit_control.specs.Refusal.{asks_saved, is_saved, opcode_by, past_end_by, range_by, refusal, request};
 ghost use Rattle.unit_control.specs.Refusal.{reserve_list_by};
 ghost use Rattle.unit_control.specs.Refusal.{state_for};
 ghost use Rattle.scsi_types.specs.Sense.{saving_parameters_not_supported};
@@ -181,9 +181,9 @@ fn range(asked: &Asked, total: u32) -> Option<Refusal>
         Ok(Command::Read { lba, blocks, .. })
         | Ok(Command::Write { lba, blocks, .. })
         | Ok(Command::CompareAndWrite { lba, blocks, .. }) => {
-            outside(*lba, u32::from(*blocks), total)
+            past_end(*lba, u32::from(*blocks), total)
         }
-        Ok(Command::SynchronizeCache { lba, blocks }) => outside(*lba, *blocks, total),
+        Ok(Command::SynchronizeCache { lba, blocks }) => past_end(*lba, *blocks, total),
         Ok(Command::TestUnitReady)
         | Ok(Command::RequestSense { .. })
         | Ok(Command::Inquiry { .. })
@@ -200,8 +200,8 @@ fn range(asked: &Asked, total: u32) -> Option<Refusal>
 }
 
 /// The LBA or the range passes the end, the LBA of an empty range too (SBC-3, READ (10) command).
-fn outside(lba: u64, blocks: u32, total: u32) -> Option<Refusal>
-    ensures { result ≡ outside total (record { lba = lba; blocks = blocks }) }
+fn past_end(lba: u64, blocks: u32, total: u32) -> Option<Refusal>
+    ensures { result ≡ past_end_by total (record { lba = lba; blocks = blocks }) }
 {
     if lba < u64::from(total) && lba + u64::from(blocks) <= u64::from(total) {
         return None;

@@ -1,7 +1,7 @@
 ghost use Rattle.std.specs.Prelude.{◌≡◌, ◌≢◌, ◌<◌, ◌≤◌, ◌++◌, ◌&&◌, ◌↔◌, false, Err, [], ◌∷◌, IfOk, OnOk, OnErr, IsErr};
 ghost use Rattle.block_file.specs.Disk.{Only};
 ghost use Rattle.block_file.specs.Failures.{Counts, Tells};
-ghost use Rattle.aptpl_file.specs.Lasts.{EachOutcomeHolds, LastsAmong, StopsAt};
+ghost use Rattle.aptpl_file.specs.Lasts.{EachOutcomeHolds, LastsAmong, StopLeavesOneOf};
 ghost use Rattle.unit_control.specs.Limits.{last_length};
 
 use crate::commands::answer;
@@ -210,7 +210,7 @@ impl<B: Blocks, F: Blocks, O: Opener<B>> Unit<B, F, O> {
         ensures same { asks_medium self.old.control (request session asked bytes.now) ≡ false → IsTrue O.claims
             → HoldsAsBefore B.moment B.left_since B.may_hold self.old.device self.new.device }
         // A stop anywhere inside it leaves a record of those that the unit said before, or the one that it saves.
-        ensures stop { IsTrue F.claims → IsTrue F.claims_moments → StopsAt F.moment F.left_since
+        ensures stop { IsTrue F.claims → IsTrue F.claims_moments → StopLeavesOneOf F.moment F.left_since
             (saved_with (refusal self.old.control (request session asked bytes.now)) self.old.control
             (request session asked bytes.now) ++ self.old.control.lasting) self.old.file.device self.new.file.device }
         // A command that a rule refuses does not reach the device.
