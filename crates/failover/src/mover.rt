@@ -61,7 +61,8 @@ impl<B: Blocks, F: Blocks, O: Opener<B>, N: Array<Opened>> Model for Asked<B, F,
     ghost view = { λ m. record { place = m.seen.0; list = m.list; seen = m.seen.1; end = m.end } };
 }
 
-/// Moves that were asked, the first first. It has room for eight, one for each of `MOST_UNITS`. Nothing reads them: contracts say by them what was moved, and what not.
+/// Moves that were asked, the first first. It has room for eight, one for each of `MOST_UNITS`. Nothing reads them: contracts say by
+/// them what was moved, and what not.
 #[derive(Drop)]
 struct Kept<B: Blocks, F: Blocks, O: Opener<B>, N: Array<Opened>> {
     moves: [Option<Asked<B, F, O, N>>; MOST_UNITS],
