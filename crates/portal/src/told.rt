@@ -33,12 +33,15 @@ fn action_of(action: PrOutAction) -> Action {
 
 /// What a PERSISTENT RESERVE OUT asks for, with its parameter list (SPC-4, 6.16.3).
 pub(crate) fn reservation_in(asked: &Asked, list: &[u8]) -> Option<Reservation> {
-    let Ok(Command::PersistentReserveOut {
-        action,
-        scope,
-        kind,
-        ..
-    }) = asked else {
+    let Ok(
+        Command::PersistentReserveOut {
+            action,
+            scope,
+            kind,
+            ..
+        },
+    ) = asked
+    else {
         return None;
     };
     if list.len() < LIST_LENGTH as usize {

@@ -38,7 +38,12 @@ fn new_status() -> &'static str {
 }
 
 /// What a loss of power leaves of each block.
-const PICKS: [Pick; 4] = [Pick::Oldest, Pick::Newest, Pick::Rotated(0), Pick::Rotated(1)];
+const PICKS: [Pick; 4] = [
+    Pick::Oldest,
+    Pick::Newest,
+    Pick::Rotated(0),
+    Pick::Rotated(1),
+];
 
 /// Where a save stops: in a file of this version, at this of its calls, counted from 0, of which so many blocks land if it is a
 /// write. Then the power is lost.

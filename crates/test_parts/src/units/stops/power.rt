@@ -8,7 +8,12 @@ use std::alloc::Global;
 use std::process::Abort;
 
 /// What a crash leaves: of each block the value that these pick.
-const PICKS: [Pick; 4] = [Pick::Oldest, Pick::Newest, Pick::Rotated(0), Pick::Rotated(1)];
+const PICKS: [Pick; 4] = [
+    Pick::Oldest,
+    Pick::Newest,
+    Pick::Rotated(0),
+    Pick::Rotated(1),
+];
 
 // Behind a restart no session of before is there, whatever serial it comes with. A unit that has opened has no entry, generation 0, and
 // the states of the opening, in which the first group owns it (SPC-4, 6.37). READ FULL STATUS tells the record of a number (SPC-4,
