@@ -33,27 +33,25 @@ fn action_of(action: PrOutAction) -> Action {
 
 /// What a PERSISTENT RESERVE OUT asks for, with its parameter list (SPC-4, 6.16.3).
 pub(crate) fn reservation_in(asked: &Asked, list: &[u8]) -> Option<Reservation> {
-    let Ok(
-        Command::PersistentReserveOut {
-            action,
-            scope,
-            kind,
-            ..
-        },
-    ) = asked
-    else {
-        return None;
-    };
-    if list.len() < LIST_LENGTH as usize {
-        return None;
+    match asked {
+        Ok(
+            Command::PersistentReserveOut {
+                action,
+                scope,
+                kind,
+                ..
+            },
+        ) if list.len() >= LIST_LENGTH as usize => {
+            let request = pr_out(*action, *scope, *kind, list);
+            Some(Reservation {
+                action: action_of(*action),
+                key: request.key,
+                service_action_key: request.sakey,
+                kind: *kind,
+            })
+        }
+        _ => None,
     }
-    let request = pr_out(*action, *scope, *kind, list);
-    Some(Reservation {
-        action: action_of(*action),
-        key: request.key,
-        service_action_key: request.sakey,
-        kind: *kind,
-    })
 }
 
 /// The access states of a unit's groups: which one is active/optimized, and the states of both.
