@@ -231,21 +231,13 @@ two_owns : (new : AccessMapValue) → new.two.state ≡ ActiveOptimized → is_o
     → IsOkAnd (with_one_owner new) (λ m. owner_of m ≡ Two)
 two_owns new two one = grind (arith, common_steps)
 
-one_down : (new : AccessMapValue) → new.one.state ≡ Unavailable → new.two.state ≡ ActiveOptimized
-    → IsOkAnd (with_one_owner new) (λ m. (owner_of m ≡ Two) × (m.one.state ≡ Unavailable))
-one_down new one two = grind (arith, common_steps)
+one_of_both : (new : AccessMapValue) (other : AccessState) → is_optimized other ≡ false → new.one.state ≡ ActiveOptimized
+    → new.two.state ≡ other → IsOkAnd (with_one_owner new) (λ m. (owner_of m ≡ One) × (m.two.state ≡ other))
+one_of_both new other way one two = grind (arith, common_steps)
 
-two_down : (new : AccessMapValue) → new.one.state ≡ ActiveOptimized → new.two.state ≡ Unavailable
-    → IsOkAnd (with_one_owner new) (λ m. (owner_of m ≡ One) × (m.two.state ≡ Unavailable))
-two_down new one two = grind (arith, common_steps)
-
-one_up : (new : AccessMapValue) → new.one.state ≡ ActiveOptimized → new.two.state ≡ ActiveNonOptimized
-    → IsOkAnd (with_one_owner new) (λ m. (owner_of m ≡ One) × (m.two.state ≡ ActiveNonOptimized))
-one_up new one two = grind (arith, common_steps)
-
-two_up : (new : AccessMapValue) → new.one.state ≡ ActiveNonOptimized → new.two.state ≡ ActiveOptimized
-    → IsOkAnd (with_one_owner new) (λ m. (owner_of m ≡ Two) × (m.one.state ≡ ActiveNonOptimized))
-two_up new one two = grind (arith, common_steps)
+two_of_both : (new : AccessMapValue) (other : AccessState) → is_optimized other ≡ false → new.one.state ≡ other
+    → new.two.state ≡ ActiveOptimized → IsOkAnd (with_one_owner new) (λ m. (owner_of m ≡ Two) × (m.one.state ≡ other))
+two_of_both new other way one two = grind (arith, common_steps)
 
 -- the other of a group that becomes active/optimized is not
 given_way : (old : AccessMapValue) → IsTrue (has_one_owner old)
@@ -270,30 +262,17 @@ to_two cause old was =
     two_owns (map_after cause old (only_two (Some ActiveOptimized))) (altered_state cause old.two ActiveOptimized)
     (ap is_optimized (altered_state cause old.one other) ∙ given_way_two old was)
 
-pub takes_down_one : (cause : Cause) (old : AccessMapValue)
-    → IsOkAnd (with_one_owner (map_after cause old (both_named Unavailable ActiveOptimized)))
-    (λ m. (owner_of m ≡ Two) × (m.one.state ≡ Unavailable))
-takes_down_one cause old =
-    one_down (map_after cause old (both_named Unavailable ActiveOptimized))
-    (altered_state cause old.one Unavailable) (altered_state cause old.two ActiveOptimized)
+-- a list that names both groups, one of them active/optimized and the other not, is taken
+pub both_to_one : (cause : Cause) (old : AccessMapValue) (other : AccessState) → is_optimized other ≡ false
+    → IsOkAnd (with_one_owner (map_after cause old (both_named ActiveOptimized other)))
+    (λ m. (owner_of m ≡ One) × (m.two.state ≡ other))
+both_to_one cause old other way =
+    one_of_both (map_after cause old (both_named ActiveOptimized other)) other way
+    (altered_state cause old.one ActiveOptimized) (altered_state cause old.two other)
 
-pub takes_down_two : (cause : Cause) (old : AccessMapValue)
-    → IsOkAnd (with_one_owner (map_after cause old (both_named ActiveOptimized Unavailable)))
-    (λ m. (owner_of m ≡ One) × (m.two.state ≡ Unavailable))
-takes_down_two cause old =
-    two_down (map_after cause old (both_named ActiveOptimized Unavailable))
-    (altered_state cause old.one ActiveOptimized) (altered_state cause old.two Unavailable)
-
-pub brings_up_one : (cause : Cause) (old : AccessMapValue)
-    → IsOkAnd (with_one_owner (map_after cause old (both_named ActiveOptimized ActiveNonOptimized)))
-    (λ m. (owner_of m ≡ One) × (m.two.state ≡ ActiveNonOptimized))
-brings_up_one cause old =
-    one_up (map_after cause old (both_named ActiveOptimized ActiveNonOptimized))
-    (altered_state cause old.one ActiveOptimized) (altered_state cause old.two ActiveNonOptimized)
-
-pub brings_up_two : (cause : Cause) (old : AccessMapValue)
-    → IsOkAnd (with_one_owner (map_after cause old (both_named ActiveNonOptimized ActiveOptimized)))
-    (λ m. (owner_of m ≡ Two) × (m.one.state ≡ ActiveNonOptimized))
-brings_up_two cause old =
-    two_up (map_after cause old (both_named ActiveNonOptimized ActiveOptimized))
-    (altered_state cause old.one ActiveNonOptimized) (altered_state cause old.two ActiveOptimized)
+pub both_to_two : (cause : Cause) (old : AccessMapValue) (other : AccessState) → is_optimized other ≡ false
+    → IsOkAnd (with_one_owner (map_after cause old (both_named other ActiveOptimized)))
+    (λ m. (owner_of m ≡ Two) × (m.one.state ≡ other))
+both_to_two cause old other way =
+    two_of_both (map_after cause old (both_named other ActiveOptimized)) other way
+    (altered_state cause old.one other) (altered_state cause old.two ActiveOptimized)

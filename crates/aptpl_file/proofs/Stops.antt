@@ -86,7 +86,8 @@ root_apart First i = let f = i.from in omega arith
 root_apart Second i = let f = i.from in omega arith
 
 pub slot_free : (may : ℕ → List ℕ → Type 0) (v : FileVersion) (slot : Slot) (records : List RecordValue)
-    → AreRecordsLeft may v slot false (first_of records) → AreRecordsLeft (beside_slot (other_slot slot) may) v slot false (first_of records)
+    → AreRecordsLeft may v slot false (first_of records)
+    → AreRecordsLeft (beside_slot (other_slot slot) may) v slot false (first_of records)
 slot_free may v slot [] among = absurd among
 slot_free may v slot (r ∷ rs) among = (
   refl,
