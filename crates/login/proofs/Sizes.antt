@@ -214,14 +214,14 @@ response_short s f said text tag h =
 
 -- there is room for it in memory that is empty
 pub response_room : (s : Progress) (f : LoginFlags) (text out : List ℕ) (room : ℕ) → s.tag < 65536
-    → is_too_long s.said s.unfinished ≡ false → text ≡ s.unfinished → length out ≡ 0 → 9216 ≤ room
+    → is_too_long s.said s.run_text ≡ false → text ≡ s.run_text → length out ≡ 0 → 9216 ≤ room
     → length out + length (response s f (pairs text)) ≤ room
 response_room s f text out room tag h e empty large =
-    let k : length (response s f (pairs s.unfinished)) ≤ 9216 = response_short s f s.said s.unfinished tag h in
+    let k : length (response s f (pairs s.run_text)) ≤ 9216 = response_short s f s.said s.run_text tag h in
     omega (arith, ap (λ (t : List ℕ). length (response s f (pairs t))) e)
 
 pub response_put : (s : Progress) (f : LoginFlags) (text out put : List ℕ) → s.tag < 65536
-    → is_too_long s.said s.unfinished ≡ false → text ≡ s.unfinished → length out ≡ 0
+    → is_too_long s.said s.run_text ≡ false → text ≡ s.run_text → length out ≡ 0
     → put ≡ out ++ response s f (pairs text) → length put ≤ 9216
 response_put s f text out put tag h e empty all =
     let k : length out + length (response s f (pairs text)) ≤ 9216 =

@@ -8,14 +8,14 @@ pub record Progress : Type 0 where
   pub tag : ℕ
   -- the current stage, once a request came
   pub stage : Option ℕ
-  -- the session type, once the first request was answered
+  -- the session type, once a request without C was answered
   pub kind : Option SessionType
   -- whether the target has declared its MaxRecvDataSegmentLength
-  pub declared : Bool
-  -- the text of the requests that were answered
+  pub length_declared : Bool
+  -- the text of the requests that were answered, but for those that wait
   pub said : List ℕ
   -- the text of the requests with C that wait for the last of their run
-  pub unfinished : List ℕ
+  pub run_text : List ℕ
 
 abbrev pub beginning : List ℕ → ℕ → Progress
 beginning target tag = record {
@@ -23,7 +23,7 @@ beginning target tag = record {
   tag = tag;
   stage = None;
   kind = None;
-  declared = false;
+  length_declared = false;
   said = [];
-  unfinished = [];
+  run_text = [];
 }

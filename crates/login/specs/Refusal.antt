@@ -13,27 +13,28 @@ use Rattle.login.specs.declared.status.LoginStatus.TheVariants.{NotFound, Unsupp
 use Rattle.login.specs.declared.status.LoginStatus.TheVariants.{MissingParameter, SessionTypeNotSupported}
 use Rattle.login.specs.declared.status.SessionType.{SessionType}
 use Rattle.login.specs.declared.status.SessionType.TheVariants.{Normal, Discovery}
-use Rattle.login.specs.declared.status.Stop.{Stop}
-use Rattle.login.specs.declared.status.Stop.TheVariants.{Refused, NamesSession}
+use Rattle.login.specs.declared.status.LoginRefusal.{LoginRefusal}
+use Rattle.login.specs.declared.status.LoginRefusal.TheVariants.{Refused, NamesSession}
 
 -- a rule judges the flags of a request and its text, joined with those of its run
 abbrev pub Rule : Type 0
-Rule = Progress → LoginFlags → List ℕ → Option Stop
+Rule = Progress → LoginFlags → List ℕ → Option LoginRefusal
 
-abbrev pub when : Bool → Stop → Option Stop
-when applies stop = if applies then Some stop else None
+abbrev pub when : Bool → LoginRefusal → Option LoginRefusal
+when applies refusal = if applies then Some refusal else None
 
 -- what the pairs say of a key
 abbrev pub value_said : Key → List Pair → Option (List ℕ)
 value_said key ps = found (row_of key).name ps
 
--- the stages: 0 security, 1 operational, 3 full feature; a login begins in 0 or 1
+-- The stages are 0 security, 1 operational and 3 full feature (RFC 7143, 11.12.3). A request is of 0 or 1, and of the current one.
 abbrev pub is_stage : Option ℕ → ℕ → Bool
-is_stage None now = nat_lt now 2
-is_stage (Some current) now = nat_lt now 2 && now == current
+is_stage None asked = nat_lt asked 2
+is_stage (Some current) asked = nat_lt asked 2 && asked == current
 
+-- the transitions that T may ask for
 abbrev pub may_go : ℕ → ℕ → Bool
-may_go now next = (now == 0 && next == 1) || (now == 0 && next == 3) || (now == 1 && next == 3)
+may_go from to = (from == 0 && to == 1) || (from == 0 && to == 3) || (from == 1 && to == 3)
 
 -- T with C, another stage than the current one, or with T a transition that there is not
 abbrev pub has_wrong_flags : Option ℕ → LoginFlags → Bool
@@ -140,28 +141,28 @@ authentication_rule s f text =
 abbrev pub rules_of_part : List Rule
 rules_of_part = flags_rule ∷ length_rule ∷ []
 
-abbrev pub checks_of_names : List Rule
-checks_of_names = initiator_rule ∷ kind_rule ∷ target_rule ∷ other_target_rule ∷ session_rule ∷ authentication_rule ∷ []
+abbrev pub rules_of_names : List Rule
+rules_of_names = initiator_rule ∷ kind_rule ∷ target_rule ∷ other_target_rule ∷ session_rule ∷ authentication_rule ∷ []
 
-abbrev pub checks_of_first : List Rule
-checks_of_first = version_rule ∷ length_rule ∷ form_rule ∷ repeated_rule ∷ name_rule ∷ checks_of_names
+abbrev pub rules_of_first : List Rule
+rules_of_first = version_rule ∷ length_rule ∷ form_rule ∷ repeated_rule ∷ name_rule ∷ rules_of_names
 
-abbrev pub checks_of_later : List Rule
-checks_of_later = length_rule ∷ form_rule ∷ repeated_rule ∷ authentication_rule ∷ []
+abbrev pub rules_of_later : List Rule
+rules_of_later = length_rule ∷ form_rule ∷ repeated_rule ∷ authentication_rule ∷ []
 
 abbrev pub rules_for : Progress → LoginFlags → List Rule
 rules_for s f =
     if f.continues then rules_of_part
-    else flags_rule ∷ (if is_none s.kind then checks_of_first else checks_of_later)
+    else flags_rule ∷ (if is_none s.kind then rules_of_first else rules_of_later)
 
 -- the first of two that applies
-abbrev pub or_else : Option Stop → Option Stop → Option Stop
+abbrev pub or_else : Option LoginRefusal → Option LoginRefusal → Option LoginRefusal
 or_else (Some a) b = Some a
 or_else None b = b
 
-abbrev pub first_stop : List Rule → Progress → LoginFlags → List ℕ → Option Stop
-first_stop [] s f text = None
-first_stop (rule ∷ rules) s f text = or_else (rule s f text) (first_stop rules s f text)
+abbrev pub first_refusal : List Rule → Progress → LoginFlags → List ℕ → Option LoginRefusal
+first_refusal [] s f text = None
+first_refusal (rule ∷ rules) s f text = or_else (rule s f text) (first_refusal rules s f text)
 
-unfoldable pub stop_of : Progress → LoginFlags → List ℕ → Option Stop
-stop_of s f text = first_stop (rules_for s f) s f text
+unfoldable pub refusal_in : Progress → LoginFlags → List ℕ → Option LoginRefusal
+refusal_in s f text = first_refusal (rules_for s f) s f text

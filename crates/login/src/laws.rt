@@ -6,7 +6,7 @@ ghost use Rattle.login.specs.Number.{number_within, flag_in};
 ghost use Rattle.login.specs.Value.{agreed};
 ghost use Rattle.login.specs.Answer.{answers, verdict_of};
 ghost use Rattle.login.specs.Progress.{Progress};
-ghost use Rattle.login.specs.Refusal.{stop_of};
+ghost use Rattle.login.specs.Refusal.{refusal_in};
 ghost use Rattle.login.specs.Request.{after, response, length_text, tells_length};
 ghost use Rattle.login.specs.declared.status.SessionType.{SessionType};
 ghost use Rattle.login.specs.declared.status.LoginFlags.{LoginFlags};
@@ -46,11 +46,11 @@ pub fn booleans_that_are_negotiated()
 /// Behind the first request that is answered, C apart, the session type is known; from then on the target does not say
 /// its TargetPortalGroupTag again (RFC 7143, 13.9), and once it declared its MaxRecvDataSegmentLength, not that either.
 pub fn what_the_target_says_once()
-    ensures known { (s : Progress) (f : LoginFlags) (text : List ℕ) → stop_of s f (s.unfinished ++ text) ≡ None
+    ensures known { (s : Progress) (f : LoginFlags) (text : List ℕ) → refusal_in s f (s.run_text ++ text) ≡ None
         → f.continues ≡ false → IsSome (after s f text).kind }
     ensures tag { (s : Progress) (f : LoginFlags) (ps : List Pair) (kind : SessionType) → s.kind ≡ Some kind
         → response s f ps ≡ length_text (tells_length s f) ++ answers ps }
-    ensures length { (s : Progress) (f : LoginFlags) → s.declared ≡ true → tells_length s f ≡ false }
+    ensures length { (s : Progress) (f : LoginFlags) → s.length_declared ≡ true → tells_length s f ≡ false }
 {}
 
 /// What is answered to an offer of MaxBurstLength, FirstBurstLength or ImmediateData is the value in force, or Reject: then

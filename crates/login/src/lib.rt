@@ -2,11 +2,11 @@
 #![tactic(auto)]
 
 mod answer;
-mod checks;
 mod key;
 mod laws;
 mod negotiation;
 mod parameters;
+mod refusal;
 mod status;
 mod targets;
 mod text;

@@ -7,32 +7,34 @@ ghost use Rattle.login.specs.Parameters.{parameters_of};
 ghost use Rattle.login.specs.Progress.{Progress, beginning};
 
 use crate::answer::{put_answers, put_bytes, put_number};
-use crate::checks::{
+use crate::key::DATA_SEGMENT_LENGTH;
+use crate::parameters::Parameters;
+use crate::refusal::{
     MOST_BYTES, has_bad_name, has_repeated, has_wrong_flags, is_too_long, names_other,
     session_type_of, wants_authentication,
 };
-use crate::key::DATA_SEGMENT_LENGTH;
-use crate::parameters::Parameters;
-use crate::status::{LoginFlags, LoginStatus, SessionType, Stop};
+use crate::status::{
+    FULL_FEATURE, LoginFlags, LoginRefusal, LoginStatus, OPERATIONAL, SessionType,
+};
 use crate::text::{found, is_text};
 use scsi_types::NoMemory;
 use std::alloc::Global;
 use std::marker::Model;
 
 /// The longest text of a response (bytes). A request that is answered has at most 8192 bytes and 64 pairs, with the
-/// others of its run; the answer to a pair is at most 14 bytes longer than the pair, which may lack its `=`; and what the
-/// target says by itself has at most 58. Together that is 9146, here rounded up to 9 KiB.
+/// others of its run. The answer to a pair is at most 13 bytes longer than the pair (NotUnderstood); 14 are counted, as if
+/// it lacked its `=`. What the target says by itself has at most 58. Together that is 9146, here rounded up to 9 KiB.
 pub const LONGEST_RESPONSE: u32 = 9216;
 
-/// What a login request comes to.
+/// What a Login Request comes to.
 #[derive(Clone, Copy)]
 pub enum LoginEnd {
-    /// The text of the response stands in the memory that was given; T and NSG are as they were asked for. The login
-    /// goes on.
-    Answer,
-    /// The text of the last response stands in the memory: the session goes to full feature phase.
+    /// The login goes on. The text of the response stands in the memory that was given; T and NSG are as they were asked
+    /// for.
+    GoesOn,
+    /// The session goes to full feature phase. The text of the last response stands in the memory.
     Accepted,
-    /// The login is refused; the negotiation stands where it stood.
+    /// The login is refused with this status; the negotiation stands where it stood.
     Refused(LoginStatus),
     /// Its TSIH is not 0: refused as one connection too many where that session lives, else as a session that does not
     /// exist. Its InitiatorName stands in the memory, and the negotiation where it stood.
@@ -42,23 +44,26 @@ pub enum LoginEnd {
 /// The negotiation of a login, from its first request on. It takes all its memory when it is made.
 #[derive(Drop)]
 pub struct Negotiation {
-    // The target's name, and the tag of the portal's group.
+    // The target's name.
     target: Vec<u8>,
+    // The tag of the group of the portal by which the login came.
     tag: u16,
-    // The stage, and the session type: none before the first request was answered.
+    // The current stage, once a request was answered.
     stage: Option<u8>,
+    // The session type, once a request without C was answered.
     kind: Option<SessionType>,
-    // Whether the target has told its MaxRecvDataSegmentLength.
-    declared: bool,
-    // The texts that were answered, one behind the other, and that of a run of requests which goes on.
+    // Whether the target has declared its MaxRecvDataSegmentLength.
+    length_declared: bool,
+    // The texts of the requests that were answered, one behind the other, but for those that wait.
     said: Vec<u8>,
-    unfinished: Vec<u8>,
+    // The text of the requests with C that wait for the last of their run.
+    run_text: Vec<u8>,
 }
 
 impl Model for Negotiation {
     ghost use Rattle.std.specs.Prelude.{◌≤◌, ◌<◌, length, vec_capacity};
     ghost use Rattle.login.specs.Progress.{Progress};
-    ghost use Rattle.login.specs.declared.checks.TheConstants.{MOST_BYTES};
+    ghost use Rattle.login.specs.declared.refusal.TheConstants.{MOST_BYTES};
 
     ghost Value = { Progress };
 
@@ -67,17 +72,17 @@ impl Model for Negotiation {
       tag = n.tag;
       stage = n.stage;
       kind = n.kind;
-      declared = n.declared;
+      length_declared = n.length_declared;
       said = n.said.items;
-      unfinished = n.unfinished.items;
+      run_text = n.run_text.items;
     } };
 
-    ghost invariant = { λ n. (length n.unfinished.items ≤ MOST_BYTES) × (MOST_BYTES ≤ vec_capacity n.unfinished)
+    ghost invariant = { λ n. (length n.run_text.items ≤ MOST_BYTES) × (MOST_BYTES ≤ vec_capacity n.run_text)
         × (MOST_BYTES ≤ vec_capacity n.said) × (n.tag < 65536) };
 }
 
 impl Negotiation {
-    ghost use Rattle.login.specs.Refusal.{stop_of, first_stop, checks_of_first, checks_of_later, checks_of_names, is_too_long};
+    ghost use Rattle.login.specs.Refusal.{refusal_in, first_refusal, rules_of_first, rules_of_later, rules_of_names, is_too_long};
     ghost use Rattle.login.specs.Request.{answer_to, answer_by, after, passed, told};
     ghost use Rattle.login.specs.Request.{response, group_text, length_text, tells_length};
 
@@ -90,38 +95,38 @@ impl Negotiation {
             tag,
             stage: None,
             kind: None,
-            declared: false,
+            length_declared: false,
             said: Vec::with_capacity(alloc, MOST_BYTES)?,
-            unfinished: Vec::with_capacity(alloc, MOST_BYTES)?,
+            run_text: Vec::with_capacity(alloc, MOST_BYTES)?,
         })
     }
 
-    /// What a Login Request with these fields of its header and this text comes to. `out` then has the text of the response, which is
-    /// empty behind a request that is to go on (C), or the InitiatorName behind `NamesSession`, else nothing.
+    /// What a Login Request with these fields of its header and this text comes to. `out` then has the text of the response where it is
+    /// answered, which is empty for one whose text goes on (C); the InitiatorName behind `NamesSession`; else nothing.
     #[tactic(auto, unfolding(crate::specs::Request::answer_to, crate::specs::Request::after))]
     pub fn request(&mut self, out: &mut Vec<u8>, flags: LoginFlags, text: &[u8]) -> LoginEnd
         requires room { LONGEST_RESPONSE ≤ vec_capacity out.old }
         ensures answer { told result out.new.items ≡ answer_to self.old flags text.now }
         ensures state { self.new ≡ after self.old flags text.now }
         ensures named { result ≡ LoginEnd.NamesSession
-            → out.new.items ≡ initiator_of (pairs (self.old.unfinished ++ text.now)) }
+            → out.new.items ≡ initiator_of (pairs (self.old.run_text ++ text.now)) }
         ensures short { length out.new.items ≤ LONGEST_RESPONSE }
         ensures kept { vec_capacity out.old ≤ vec_capacity out.new }
     {
         out.clear();
-        if MOST_BYTES - self.unfinished.len() < text.len() {
+        if MOST_BYTES - self.run_text.len() < text.len() {
             return LoginEnd::Refused(self.status_of_long(flags));
         }
-        let before = self.unfinished.len();
-        put_bytes(&mut self.unfinished, text);
-        match self.stop(flags, &self.unfinished) {
-            Some(Stop::Refused(status)) => {
-                self.unfinished.truncate(before);
+        let before = self.run_text.len();
+        put_bytes(&mut self.run_text, text);
+        match self.refusal(flags, &self.run_text) {
+            Some(LoginRefusal::Refused(status)) => {
+                self.run_text.truncate(before);
                 LoginEnd::Refused(status)
             }
-            Some(Stop::NamesSession) => {
-                put_bytes(out, initiator_of(&self.unfinished));
-                self.unfinished.truncate(before);
+            Some(LoginRefusal::NamesSession) => {
+                put_bytes(out, initiator_of(&self.run_text));
+                self.run_text.truncate(before);
                 LoginEnd::NamesSession
             }
             None => self.proceed(out, flags),
@@ -153,11 +158,11 @@ impl Negotiation {
         Parameters::after(&self.said)
     }
 
-    /// How a request is refused that is too long with those of its run, so that its text isn't looked at.
-    #[tactic(auto, unfolding(crate::specs::Refusal::stop_of))]
+    /// The status of a request that has more than 8192 bytes with the others of its run, so that its text is not looked at.
+    #[tactic(auto, unfolding(crate::specs::Refusal::refusal_in))]
     fn status_of_long(&self, flags: LoginFlags) -> LoginStatus
         ensures { (whole : List ℕ) → MOST_BYTES < length whole
-            → stop_of self.now flags whole ≡ Some (Stop.Refused result) }
+            → refusal_in self.now flags whole ≡ Some (LoginRefusal.Refused result) }
     {
         if has_wrong_flags(self.stage, flags) || flags.continues || self.kind.is_some() {
             return LoginStatus::InitiatorError;
@@ -169,10 +174,17 @@ impl Negotiation {
         }
     }
 
-    /// How the request is refused: by the first check that it does not pass.
-    #[tactic(auto, unfolding(crate::specs::Refusal::stop_of))]
-    fn stop(&self, flags: LoginFlags, whole: &[u8]) -> Option<Stop>
-        ensures { result ≡ stop_of self.now flags whole.now }
+    /// Whether no request without C was answered yet.
+    fn is_first(&self) -> bool
+        ensures { result ≡ is_none self.now.kind }
+    {
+        self.kind.is_none()
+    }
+
+    /// Why a request is refused, if it is: by the first rule that applies. `whole` is its text with those of its run.
+    #[tactic(auto, unfolding(crate::specs::Refusal::refusal_in))]
+    fn refusal(&self, flags: LoginFlags, whole: &[u8]) -> Option<LoginRefusal>
+        ensures { result ≡ refusal_in self.now flags whole.now }
     {
         if has_wrong_flags(self.stage, flags) {
             return refused(LoginStatus::InitiatorError);
@@ -183,17 +195,17 @@ impl Negotiation {
             }
             return None;
         }
-        if self.kind.is_none() {
-            self.stop_of_first(flags, whole)
+        if self.is_first() {
+            self.refusal_of_first(flags, whole)
         } else {
-            self.stop_of_later(flags, whole)
+            self.refusal_of_later(flags, whole)
         }
     }
 
-    /// The same of a login's first request, behind the check of its flags.
-    fn stop_of_first(&self, flags: LoginFlags, whole: &[u8]) -> Option<Stop>
+    /// The same of a login's first request without C, behind the rule of its flags.
+    fn refusal_of_first(&self, flags: LoginFlags, whole: &[u8]) -> Option<LoginRefusal>
         requires { is_none self.now.kind ≡ true }
-        ensures { result ≡ first_stop checks_of_first self.now flags whole.now }
+        ensures { result ≡ first_refusal rules_of_first self.now flags whole.now }
     {
         if flags.version_min != 0 {
             return refused(LoginStatus::UnsupportedVersion);
@@ -210,12 +222,12 @@ impl Negotiation {
         if has_bad_name(whole) {
             return refused(LoginStatus::InitiatorError);
         }
-        self.stop_by_names(flags, whole)
+        self.refusal_by_names(flags, whole)
     }
 
-    /// The same by the names, the session and the authentication of that request.
-    fn stop_by_names(&self, flags: LoginFlags, whole: &[u8]) -> Option<Stop>
-        ensures { result ≡ first_stop checks_of_names self.now flags whole.now }
+    /// The same behind the rules of its length and its form: by its names, its session and its authentication.
+    fn refusal_by_names(&self, flags: LoginFlags, whole: &[u8]) -> Option<LoginRefusal>
+        ensures { result ≡ first_refusal rules_of_names self.now flags whole.now }
     {
         if found(whole, b"InitiatorName").is_none() {
             return refused(LoginStatus::MissingParameter);
@@ -231,7 +243,7 @@ impl Negotiation {
             return refused(LoginStatus::NotFound);
         }
         if flags.tsih != 0 {
-            return Some(Stop::NamesSession);
+            return Some(LoginRefusal::NamesSession);
         }
         if wants_authentication(whole) {
             return refused(LoginStatus::AuthenticationFailure);
@@ -239,10 +251,10 @@ impl Negotiation {
         None
     }
 
-    /// The same of a later request, behind the check of its flags.
-    fn stop_of_later(&self, flags: LoginFlags, whole: &[u8]) -> Option<Stop>
+    /// The same of a later request without C, behind the rule of its flags.
+    fn refusal_of_later(&self, flags: LoginFlags, whole: &[u8]) -> Option<LoginRefusal>
         requires { is_none self.now.kind ≡ false }
-        ensures { result ≡ first_stop checks_of_later self.now flags whole.now }
+        ensures { result ≡ first_refusal rules_of_later self.now flags whole.now }
     {
         if is_too_long(&self.said, whole) {
             return refused(LoginStatus::InitiatorError);
@@ -259,33 +271,33 @@ impl Negotiation {
         None
     }
 
-    /// Goes on behind a request that passed the checks, whose text stands in `unfinished`.
+    /// Answers a request that no rule refuses, whose text stands in `run_text` with those of its run.
     fn proceed(&mut self, out: &mut Vec<u8>, flags: LoginFlags) -> LoginEnd
         requires empty { length out.old.items ≡ 0 }
         requires room { LONGEST_RESPONSE ≤ vec_capacity out.old }
-        requires fits { is_too_long self.old.said self.old.unfinished ≡ false }
+        requires fits { is_too_long self.old.said self.old.run_text ≡ false }
         ensures answer { told result out.new.items
-            ≡ answer_by None flags (response self.old flags (pairs self.old.unfinished)) }
-        ensures state { self.new ≡ passed self.old flags self.old.unfinished }
+            ≡ answer_by None flags (response self.old flags (pairs self.old.run_text)) }
+        ensures state { self.new ≡ passed self.old flags self.old.run_text }
         ensures going { result ≡ LoginEnd.NamesSession → ⊥ }
         ensures short { length out.new.items ≤ LONGEST_RESPONSE }
         ensures kept { vec_capacity out.old ≤ vec_capacity out.new }
     {
         if flags.continues {
             self.stage = Some(flags.current_stage);
-            return LoginEnd::Answer;
+            return LoginEnd::GoesOn;
         }
-        self.put_response(out, flags, &self.unfinished);
-        put_bytes(&mut self.said, &self.unfinished);
+        self.put_response(out, flags, &self.run_text);
+        put_bytes(&mut self.said, &self.run_text);
         let next = next_stage(flags);
         self.stage = Some(next);
-        self.kind = kind_after(self.kind, &self.unfinished);
-        self.declared = self.declared || flags.current_stage == 1;
-        self.unfinished.clear();
-        if next == 3 {
+        self.kind = kind_after(self.kind, &self.run_text);
+        self.length_declared = self.length_declared || flags.current_stage == OPERATIONAL;
+        self.run_text.clear();
+        if next == FULL_FEATURE {
             LoginEnd::Accepted
         } else {
-            LoginEnd::Answer
+            LoginEnd::GoesOn
         }
     }
 
@@ -309,29 +321,31 @@ impl Negotiation {
             ≡ out.old.items ++ group_text self.now.tag self.now.kind (kind_after self.now.kind (pairs whole.now)) }
         ensures kept { vec_capacity out.old ≤ vec_capacity out.new }
     {
-        if self.kind.is_none() && session_type_of(whole) == Some(SessionType::Normal) {
+        if self.is_first() && session_type_of(whole) == Some(SessionType::Normal) {
             put_number(out, b"TargetPortalGroupTag", self.tag as u32);
         }
     }
 
-    /// Appends MaxRecvDataSegmentLength, in the first response of stage 1.
+    /// Appends MaxRecvDataSegmentLength, in the first response of the operational stage.
     fn put_length(&self, out: &mut Vec<u8>, flags: LoginFlags)
         requires room { length out.old.items + length (length_text (tells_length self.now flags)) ≤ vec_capacity out.old }
         ensures put { out.new.items ≡ out.old.items ++ length_text (tells_length self.now flags) }
         ensures kept { vec_capacity out.old ≤ vec_capacity out.new }
     {
-        if !self.declared && flags.current_stage == 1 {
+        if !self.length_declared && flags.current_stage == OPERATIONAL {
             put_number(out, b"MaxRecvDataSegmentLength", DATA_SEGMENT_LENGTH);
         }
     }
 }
 
-fn refused(status: LoginStatus) -> Option<Stop>
-    ensures { result ≡ Some (Stop.Refused status) }
+// Refused with this status.
+fn refused(status: LoginStatus) -> Option<LoginRefusal>
+    ensures { result ≡ Some (LoginRefusal.Refused status) }
 {
-    Some(Stop::Refused(status))
+    Some(LoginRefusal::Refused(status))
 }
 
+// The stage behind a request: as T asks for it, else that of the request.
 fn next_stage(flags: LoginFlags) -> u8
     ensures { result ≡ next_stage flags }
 {
@@ -342,6 +356,7 @@ fn next_stage(flags: LoginFlags) -> u8
     }
 }
 
+// The session type behind a request, as the first one said it.
 fn kind_after(kind: Option<SessionType>, text: &[u8]) -> Option<SessionType>
     ensures { result ≡ kind_after kind (pairs text.now) }
 {

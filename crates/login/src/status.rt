@@ -1,4 +1,4 @@
-//! What a login request asks for, and how a login is refused.
+//! What a Login Request asks for, and how a login is refused.
 ghost use Rattle.std.specs.Prelude.{◌≡◌};
 
 /// What a session is for (RFC 7143, 4.3 and 13.21).
@@ -8,16 +8,23 @@ pub enum SessionType {
     Discovery,
 }
 
-/// What a negotiation looks at in the header of a Login request (RFC 7143, 11.12).
+/// The stages (RFC 7143, 11.12.3). A login begins in one of the first two.
+pub const SECURITY: u8 = 0;
+
+pub const OPERATIONAL: u8 = 1;
+
+pub const FULL_FEATURE: u8 = 3;
+
+/// What a negotiation looks at in the header of a Login Request (RFC 7143, 11.12).
 #[derive(Clone, Copy)]
 pub struct LoginFlags {
     /// T: ready to go to the next stage.
     pub transit: bool,
     /// C: the text goes on in the next request.
     pub continues: bool,
-    /// CSG: 0 security, 1 operational.
+    /// CSG: security or operational.
     pub current_stage: u8,
-    /// NSG, looked at with T: 1 operational, 3 full feature.
+    /// NSG, looked at with T: operational or full feature.
     pub next_stage: u8,
     pub version_min: u8,
     /// 0, or the session that the connection is to join.
@@ -79,10 +86,11 @@ impl LoginStatus {
     }
 }
 
-/// How a check ends a login.
+/// How a Login Request is refused.
 #[derive(Clone, Copy)]
-pub enum Stop {
+pub enum LoginRefusal {
+    /// With this status.
     Refused(LoginStatus),
-    /// It names a session, of which the session layer asks whether it lives.
+    /// Its TSIH names a session: with the status that the session layer chooses by whether that lives.
     NamesSession,
 }

@@ -4,10 +4,9 @@ ghost use Rattle.login.specs.Text.{pairs, spelled};
 ghost use Rattle.login.specs.TextEnd.{IsTextEnd};
 ghost use Rattle.login.specs.Targets.{portal_text, address_text, addresses, answer_of, answers_of, target_text, targets_text};
 
-use crate::checks::{MOST_PAIRS, count_of_pairs};
 use crate::key::Key;
 use crate::status::SessionType;
-use crate::text::{first_pair, is_text};
+use crate::text::{MOST_PAIRS, count_of_pairs, first_pair, is_text};
 use std::alloc::{AllocError, Global};
 use std::net::SocketAddrV4;
 

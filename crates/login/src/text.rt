@@ -1,10 +1,13 @@
 //! Text: pairs `key=value`, each with a zero byte behind it (RFC 7143, 6.1).
-ghost use Rattle.std.specs.Prelude.{◌≡◌, ◌∷◌, ◌<◌, ◌≤◌, [], length, IfSome, IfNone, option_map};
+ghost use Rattle.std.specs.Prelude.{◌≡◌, ◌∷◌, ◌<◌, ◌≤◌, [], count_by, length, IfSome, IfNone, option_map};
 ghost use Rattle.std.specs.List.{before_first, after_first, position_or_len};
 ghost use Rattle.login.specs.Text.{is_byte, is_pair, is_text, pairs, found};
 
 /// The most bytes of a key.
 const LONGEST_KEY: usize = 63;
+
+/// The most pairs of a negotiation, and of a Text request.
+pub const MOST_PAIRS: usize = 64;
 
 /// The first pair of a text, and the text behind it.
 #[derive(Clone, Copy)]
@@ -64,6 +67,13 @@ fn is_pair(part: &[u8]) -> bool
         Some((key, _)) => !key.is_empty() && key.len() <= LONGEST_KEY,
         None => false,
     }
+}
+
+/// How many zero bytes a text has: each ends a pair, or what stands in the place of one.
+pub fn count_of_pairs(text: &[u8]) -> usize
+    ensures { result ≡ count_by (is_byte 0) text.now }
+{
+    text.iter().filter(|byte| **byte == 0).count()
 }
 
 /// The first pair of a text, if it has one.

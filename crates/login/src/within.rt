@@ -4,10 +4,9 @@ ghost use Rattle.login.specs.Text.{pairs, spelled};
 ghost use Rattle.login.specs.TextEnd.{IsPutWithin, IsTextAnswer};
 ghost use Rattle.login.specs.Targets.{answer_of, answers_of, targets_text};
 
-use crate::checks::{MOST_PAIRS, count_of_pairs};
 use crate::key::Key;
 use crate::status::SessionType;
-use crate::text::{first_pair, is_text};
+use crate::text::{MOST_PAIRS, count_of_pairs, first_pair, is_text};
 
 /// What the text of a Text request comes to, where an answer has so much room.
 #[derive(Clone, Copy)]

@@ -10,7 +10,7 @@ use Rattle.session_rules.specs.LoginPhase.{flags_of, port_of, outcome_of_begin, 
 use Rattle.session_rules.specs.LoginPhase.{progress_after, cmd_sn_in, login_numbers, login_outs}
 use Rattle.session_stream.specs.{declared.pdus.Pdus.Pdus, Pdus.sent_by, Outbox.OutboxValue, Outbox.IsQueued}
 use Rattle.session_login.specs.LoginMachine.{IsTextOf, MakesLoginTurn}
-use Rattle.login.specs.declared.status.Stop.TheVariants as stops
+use Rattle.login.specs.declared.status.LoginRefusal.TheVariants as refusals
 
 abbrev pub port_with : ℕ → List ℕ → Port
 port_with isid name = record { name = name; isid = isid }
@@ -34,12 +34,12 @@ module _ {T : Type 0} (leads : T → Asking → T → Type 0) (x y : T) (s : Pro
         (k.0, refl, k.2, k.3),
       )
 
-  pub named : (e : Ending) (port : Port) → Stopped stops.NamesSession ≡ e → port ≡ port_of p (s.unfinished ++ d)
+  pub named : (e : Ending) (port : Port) → Stopped refusals.NamesSession ≡ e → port ≡ port_of p (s.run_text ++ d)
       → (answer : Bool) × leads x (lives p.tsih port answer) y × (o ≡ outcome_of_lives answer) → Comes e
   named e port is same k =
-      let asked : leads x (lives p.tsih (port_of p (s.unfinished ++ d)) k.0) y =
+      let asked : leads x (lives p.tsih (port_of p (s.run_text ++ d)) k.0) y =
       subst (λ (z : Port). leads x (lives p.tsih z k.0) y) same k.1 in
-      subst Comes is (Some (lives p.tsih (port_of p (s.unfinished ++ d)) k.0), asked, (k.0, refl, k.2))
+      subst Comes is (Some (lives p.tsih (port_of p (s.run_text ++ d)) k.0), asked, (k.0, refl, k.2))
 
 -- ---- a turn of a login, of its steps
 

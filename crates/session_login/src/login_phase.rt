@@ -127,7 +127,7 @@ impl LoginPhase {
         ensures kept { vec_capacity room.old ≤ vec_capacity room.new }
     {
         match self.negotiation.request(room, flags_of(request), text) {
-            LoginEnd::Answer => LoginOutcome::GoesOn,
+            LoginEnd::GoesOn => LoginOutcome::GoesOn,
             LoginEnd::Accepted => self.begin_session(target, request),
             LoginEnd::Refused(status) => LoginOutcome::Refused(status),
             LoginEnd::NamesSession => find_session(target, request, room),

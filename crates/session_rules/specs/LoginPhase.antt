@@ -14,7 +14,7 @@ use Rattle.login.specs.declared.status.LoginStatus.TheVariants.{TooManyConnectio
 use Rattle.session_rules.specs.{Causes.end_by_reject, Causes.end_by_refusal, Codes.command_not_supported, Asking.Asking, Asking.began, Asking.lives, Handle.HasHandle, Window.wrap}
 use Rattle.session_rules.specs.{Standing.numbers_for, Verdict.reason_of, Turn.Incoming, Turn.pdu, Turn.faulty, Turn.Out}
 use Rattle.session_rules.specs.declared.login_outcome.LoginOutcome.TheVariants.{GoesOn, Begun, Refused, Rejected}
-use Rattle.login.specs.declared.status.Stop.TheVariants as stops
+use Rattle.login.specs.declared.status.LoginRefusal.TheVariants as refusals
 use Rattle.session_rules.specs.declared.target.BeginAnswer.TheVariants as begin_answers
 
 -- what came, what the target was asked, what it came to, and what went out
@@ -106,9 +106,9 @@ IsNegotiated s p d (Finished text) call o =
     (answer : BeginAnswer)
     × (call ≡ Some (began (port_of p (after s (flags_of p) d).said) (kind_in (after s (flags_of p) d).kind) answer))
     × HasHandle answer × (o ≡ outcome_of_begin answer)
-IsNegotiated s p d (Stopped (stops.Refused status)) call o = (call ≡ None) × (o ≡ Refused status)
-IsNegotiated s p d (Stopped stops.NamesSession) call o =
-    (answer : Bool) × (call ≡ Some (lives p.tsih (port_of p (s.unfinished ++ d)) answer)) × (o ≡ outcome_of_lives answer)
+IsNegotiated s p d (Stopped (refusals.Refused status)) call o = (call ≡ None) × (o ≡ Refused status)
+IsNegotiated s p d (Stopped refusals.NamesSession) call o =
+    (answer : Bool) × (call ≡ Some (lives p.tsih (port_of p (s.run_text ++ d)) answer)) × (o ≡ outcome_of_lives answer)
 
 -- what comes in a login: another PDU of an initiator is refused; one of a target, and a fault, has a Reject
 abbrev pub IsTurnedAway : Option Asking → LoginOutcome → Type 0
@@ -130,7 +130,7 @@ HasOutcome s (faulty f b) call o = (call ≡ None) × (o ≡ Rejected (reason_of
 abbrev pub ending_text : Ending → List ℕ
 ending_text (Answered text) = text
 ending_text (Finished text) = text
-ending_text (Stopped stop) = []
+ending_text (Stopped refusal) = []
 
 -- the response to a request that passed: T, CSG and NSG as they were asked for, and the TSIH in the last alone
 abbrev pub passed_header : Numbers → LoginHeader → ℕ → TargetHeader

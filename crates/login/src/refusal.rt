@@ -1,26 +1,24 @@
-//! Rules by which a Login Request is refused. Their order stands in `Negotiation::stop`.
-ghost use Rattle.std.specs.Prelude.{◌≡◌, count_by, option_map};
-ghost use Rattle.login.specs.Text.{is_byte, pairs};
+//! What a Login Request is refused for (RFC 7143, 6.3, 11.12 and 11.13.5): the rules that take more than a line. All of them stand in
+//! their order in `Negotiation::refusal`.
+ghost use Rattle.std.specs.Prelude.{◌≡◌, option_map};
+ghost use Rattle.login.specs.Text.{pairs};
 ghost use Rattle.login.specs.Refusal.{is_stage, may_go, has_wrong_flags, is_too_long, has_repeated, stands_from_first};
 ghost use Rattle.login.specs.Refusal.{has_bad_length, has_bad_name, session_type_of, is_other, wants_authentication, value_said};
 ghost use Rattle.login.specs.Table.{key_named};
 
 use crate::key::Key;
-use crate::status::{LoginFlags, SessionType};
-use crate::text::{first_pair, found};
+use crate::status::{FULL_FEATURE, LoginFlags, OPERATIONAL, SECURITY, SessionType};
+use crate::text::{MOST_PAIRS, count_of_pairs, first_pair, found};
 use crate::value::is_listed;
 
 /// The most bytes of text of a negotiation.
 pub const MOST_BYTES: usize = 8192;
 
-/// The most pairs of a negotiation, and of a Text request.
-pub const MOST_PAIRS: usize = 64;
-
-/// The most bytes of a name.
+/// The most bytes of a name (RFC 7143, 4.2.7.1).
 const LONGEST_NAME: usize = 223;
 
-/// Whether T comes with C, or the request is of another stage than the current one, or asks for a transition that there is not. Before
-/// the first request there is no current stage.
+/// Whether T comes with C, or CSG is not the current stage, or T asks for a transition that there is not (RFC 7143, 11.12.1 to 11.12.3).
+/// Before the first request there is no current stage.
 pub fn has_wrong_flags(stage: Option<u8>, flags: LoginFlags) -> bool
     ensures { result ≡ has_wrong_flags stage flags }
 {
@@ -29,23 +27,26 @@ pub fn has_wrong_flags(stage: Option<u8>, flags: LoginFlags) -> bool
         || flags.transit && !may_go(flags.current_stage, flags.next_stage)
 }
 
-// Stages are 0 security, 1 operational and 3 full feature (RFC 7143, 11.12.3). A login begins in one of the first two.
-fn is_stage(stage: Option<u8>, now: u8) -> bool
-    ensures { result ≡ is_stage stage now }
+// Whether a request may be of this stage: security or operational, and the current one behind the first request (RFC 7143, 6.3).
+fn is_stage(current: Option<u8>, asked: u8) -> bool
+    ensures { result ≡ is_stage current asked }
 {
-    match stage {
-        None => now < 2,
-        Some(current) => now < 2 && now == current,
+    match current {
+        None => asked < 2,
+        Some(current) => asked < 2 && asked == current,
     }
 }
 
-fn may_go(now: u8, next: u8) -> bool
-    ensures { result ≡ may_go now next }
+// Whether there is a transition from one stage to another (RFC 7143, 11.12.3).
+fn may_go(from: u8, to: u8) -> bool
+    ensures { result ≡ may_go from to }
 {
-    now == 0 && next == 1 || (now == 0 && next == 3) || (now == 1 && next == 3)
+    from == SECURITY && to == OPERATIONAL
+        || (from == SECURITY && to == FULL_FEATURE)
+        || (from == OPERATIONAL && to == FULL_FEATURE)
 }
 
-/// Whether the negotiation has more text or more pairs than it may.
+/// Whether a negotiation that has said so much would have more than 8192 bytes of text or more than 64 pairs with this text.
 pub fn is_too_long(said: &[u8], text: &[u8]) -> bool
     ensures { result ≡ is_too_long said.now text.now }
 {
@@ -54,14 +55,8 @@ pub fn is_too_long(said: &[u8], text: &[u8]) -> bool
     bytes > MOST_BYTES as u128 || pairs > MOST_PAIRS as u128
 }
 
-/// How many zero bytes a text has: each ends a pair, whatever stands before it.
-pub fn count_of_pairs(text: &[u8]) -> usize
-    ensures { result ≡ count_by (is_byte 0) text.now }
-{
-    text.iter().filter(|byte| **byte == 0).count()
-}
-
-/// Whether a key stands twice, in this text or in an earlier one. Behind the first request the keys of `stands_from_first` may come again.
+/// Whether a key of this text stands there twice, or in what was said before (RFC 7143, 6.3). Behind the first request the keys of
+/// `stands_from_first` may come again.
 pub fn has_repeated(first: bool, said: &[u8], text: &[u8]) -> bool
     ensures { result ≡ has_repeated first (pairs said.now) (pairs text.now) }
 {
@@ -76,7 +71,7 @@ pub fn has_repeated(first: bool, said: &[u8], text: &[u8]) -> bool
     false
 }
 
-/// Whether what the first request said of this key stands: a later one may say it again, and is not heard.
+/// Whether of this key stands what the first request said: a later one may say it again, which changes nothing.
 fn stands_from_first(key: &[u8]) -> bool
     ensures { result ≡ stands_from_first (key_named key.now) }
 {
@@ -86,7 +81,7 @@ fn stands_from_first(key: &[u8]) -> bool
     )
 }
 
-/// Whether the InitiatorName is empty, or a name has more than 223 bytes.
+/// Whether the InitiatorName is empty, or one of the two names has more than 223 bytes (RFC 7143, 4.2.7.1).
 pub fn has_bad_name(text: &[u8]) -> bool
     ensures { result ≡ has_bad_name (pairs text.now) }
 {
@@ -94,6 +89,7 @@ pub fn has_bad_name(text: &[u8]) -> bool
         || has_bad_length(0, found(text, b"TargetName"))
 }
 
+// Whether a name, where it is said, has fewer bytes than these or more than a name may have.
 fn has_bad_length(least: usize, name: Option<&[u8]>) -> bool
     ensures { result ≡ has_bad_length least (option_map (λ v. v.now) name.entry) }
 {
@@ -103,7 +99,7 @@ fn has_bad_length(least: usize, name: Option<&[u8]>) -> bool
     }
 }
 
-/// The session type that a text asks for: Normal where it says none. None where its value is neither.
+/// The session type that a text asks for (RFC 7143, 13.21): Normal where it says none, and none where it says another word.
 pub fn session_type_of(text: &[u8]) -> Option<SessionType>
     ensures { result ≡ session_type_of (pairs text.now) }
 {
@@ -121,7 +117,7 @@ pub fn session_type_of(text: &[u8]) -> Option<SessionType>
     }
 }
 
-/// Whether a text names another target than this.
+/// Whether a text names another target than the one with this name.
 pub fn names_other(target: &[u8], text: &[u8]) -> bool
     ensures { result ≡ is_other target.now (value_said Key.TargetName (pairs text.now)) }
 {
@@ -131,7 +127,7 @@ pub fn names_other(target: &[u8], text: &[u8]) -> bool
     }
 }
 
-/// Whether a text offers AuthMethod without None.
+/// Whether a text offers methods of authentication, and None is not among them (RFC 7143, 12.1).
 pub fn wants_authentication(text: &[u8]) -> bool
     ensures { result ≡ wants_authentication (value_said Key.AuthMethod (pairs text.now)) }
 {
