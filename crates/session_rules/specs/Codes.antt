@@ -32,6 +32,20 @@ completed = 0x00
 abbrev pub sense_length : ℕ
 sense_length = 18
 
+-- ---- functions of task management (11.5.1)
+
+abbrev pub abort_task : ℕ
+abort_task = 1
+
+abbrev pub abort_task_set : ℕ
+abort_task_set = 2
+
+abbrev pub logical_unit_reset : ℕ
+logical_unit_reset = 5
+
+abbrev pub task_reassign : ℕ
+task_reassign = 8
+
 -- ---- responses to task management (11.6.1)
 
 abbrev pub function_complete : ℕ

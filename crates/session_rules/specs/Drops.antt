@@ -1,15 +1,16 @@
 -- Which tasks a task management function drops (RFC 7143, 11.5.1).
 use Rattle.std.specs.Prelude.{◌==◌, ◌&&◌, ◌||◌, if◌then◌else◌, ◌∷◌}
 use Rattle.session_rules.specs.Words.{ℕ, nat_lt, bytes_eq, drop, slice_index, Bool, false, List, [], CommandHeader, ManagementHeader}
-use Rattle.session_rules.specs.Words.{TaskFunction, AbortTask, AbortTaskSet, LogicalUnitReset, TaskReassign, Unserved}
+use Rattle.session_rules.specs.Words.{TaskFunction, AbortTask, AbortTaskSet, LogicalUnitReset, TaskReassign, Other}
+use Rattle.session_rules.specs.Codes.{abort_task, abort_task_set, logical_unit_reset, task_reassign}
 
--- the functions by their numbers (11.5.1)
+-- the function with this code (11.5.1)
 abbrev pub function_of : ℕ → TaskFunction
-function_of n =
-    if n == 1 then AbortTask
-    else (if n == 2 then AbortTaskSet
-    else (if n == 5 then LogicalUnitReset
-    else (if n == 8 then TaskReassign else Unserved)))
+function_of code =
+    if code == abort_task then AbortTask
+    else (if code == abort_task_set then AbortTaskSet
+    else (if code == logical_unit_reset then LogicalUnitReset
+    else (if code == task_reassign then TaskReassign else Other)))
 
 -- the second LUN names the unit that the first one names, by peripheral or flat addressing (SAM-5, 4.7.5 to 4.7.7)
 abbrev pub is_same_unit : List ℕ → List ℕ → Bool
@@ -22,7 +23,7 @@ drops_by AbortTask x p = x.referenced_tag == p.task_tag
 drops_by AbortTaskSet x p = is_same_unit x.lun p.lun
 drops_by LogicalUnitReset x p = is_same_unit x.lun p.lun
 drops_by TaskReassign x p = false
-drops_by Unserved x p = false
+drops_by Other x p = false
 
 abbrev pub drops : ManagementHeader → CommandHeader → Bool
 drops x p = drops_by (function_of x.function) x p

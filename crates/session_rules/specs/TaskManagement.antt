@@ -2,7 +2,7 @@
 use Rattle.std.specs.Prelude.{◌≡◌, if◌then◌else◌, ◌∷◌}
 use Rattle.session_rules.specs.Words.{ℕ, not, nat_lt, Bool, List, [], Option, Some, None, list_any, filter, NamesUnit, ManagementHeader}
 use Rattle.session_rules.specs.Words.{Numbers, TaskManagementResponse, ResetAnswer, TaskFunction, AbortTask, AbortTaskSet, LogicalUnitReset}
-use Rattle.session_rules.specs.Words.{TaskReassign, Unserved, ManagementOutcome, Respond, Reset}
+use Rattle.session_rules.specs.Words.{TaskReassign, Other, ManagementOutcome, Respond, Reset}
 use Rattle.session_rules.specs.{Turn.Out, Asking.Asking, Asking.reset, Tasks.Collecting, Drops.function_of, Drops.drops}
 use Rattle.session_rules.specs.declared.target.ResetAnswer.TheVariants.{Done, Gone, Failed}
 use Rattle.session_rules.specs.Codes.{function_complete, task_does_not_exist, lun_does_not_exist, reassignment_not_supported}
@@ -31,7 +31,7 @@ management_of AbortTaskSet dropped (Some unit) = Respond function_complete
 management_of LogicalUnitReset dropped None = Respond lun_does_not_exist
 management_of LogicalUnitReset dropped (Some unit) = Reset unit
 management_of TaskReassign dropped unit = Respond reassignment_not_supported
-management_of Unserved dropped unit = Respond function_not_supported
+management_of Other dropped unit = Respond function_not_supported
 
 -- what a request comes to, where there are so many units and these commands wait, and which of them wait behind it
 pub record IsManagement (units : ℕ) (cs : List Collecting) (p : ManagementHeader) (m : ManagementOutcome)

@@ -34,5 +34,5 @@ pub use Rattle.session_rules.specs.declared.opening.Opening.TheVariants.{Login, 
 pub use Rattle.session_rules.specs.declared.target.TargetAnswer.TheVariants.{Replied, Outside, Busy, Gone}
 pub use Rattle.session_rules.specs.declared.task_function.ManagementOutcome.TheVariants.{Respond, Reset}
 pub use Rattle.session_rules.specs.declared.task_function.TaskFunction.TheVariants.{AbortTask, AbortTaskSet, LogicalUnitReset}
-pub use Rattle.session_rules.specs.declared.task_function.TaskFunction.TheVariants.{TaskReassign, Unserved}
+pub use Rattle.session_rules.specs.declared.task_function.TaskFunction.TheVariants.{TaskReassign, Other}
 pub use Rattle.session_rules.specs.declared.verdict.Verdict.TheVariants.{Accepted, Ignored, Refused, Full, Gap}

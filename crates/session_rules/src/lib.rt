@@ -3,10 +3,11 @@
 //!
 //! Of specs/, `Phases` says what a transcript is and which are legal: `LoginPhase` has the turns of a login, `Turn` and `Legal`
 //! those of full feature phase; `Ends` says why a session ends, and `Causes` of which cause. `Asking` says what a target is
-//! asked, `Setting` what stays the same in full feature phase, `Standing` what stands behind some turns, `Window` how numbers count, `Verdict` which PDUs are
-//! accepted, `Tasks` and `Collecting` how a command gathers its data and is called, `Drops` and `TaskManagement` which are
-//! aborted, `Answered`, `Response` and `DataIn` how a command is answered, `Requests` how anything else is. `Words` passes on
-//! what is std's and the lower crates'. What follows for an initiator is stated by the functions without a body, in `laws`.
+//! asked, `Setting` what stays the same in full feature phase, `Standing` what stands behind some turns, `Window` how numbers count,
+//! `Verdict` which PDUs are accepted, `Tasks` and `Collecting` how a command gathers its data and is called, `Drops` and
+//! `TaskManagement` which are aborted, `Answered`, `Response` and `DataIn` how a command is answered, `Requests` how anything else is.
+//! `Words` passes on what is std's and the lower crates'. What follows for an initiator is stated by the functions without a body, in
+//! `laws`.
 #![tactic(auto)]
 
 mod end;

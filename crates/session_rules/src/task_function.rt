@@ -2,7 +2,7 @@
 ghost use Rattle.std.specs.Prelude.{◌≡◌};
 ghost use Rattle.session_rules.specs.Drops.{function_of};
 
-/// The functions that are told apart (RFC 7143, 11.5.1).
+/// The functions of task management that are told apart (RFC 7143, 11.5.1).
 #[derive(Clone, Copy)]
 pub enum TaskFunction {
     AbortTask,
@@ -10,20 +10,20 @@ pub enum TaskFunction {
     LogicalUnitReset,
     TaskReassign,
     /// Any other, which is not supported.
-    Unserved,
+    Other,
 }
 
 impl TaskFunction {
-    /// The function of this number.
-    pub fn of(function: u8) -> TaskFunction
-        ensures { result ≡ function_of function }
+    /// The function with this code (11.5.1).
+    pub fn of(code: u8) -> TaskFunction
+        ensures { result ≡ function_of code }
     {
-        match function {
+        match code {
             1 => TaskFunction::AbortTask,
             2 => TaskFunction::AbortTaskSet,
             5 => TaskFunction::LogicalUnitReset,
             8 => TaskFunction::TaskReassign,
-            _ => TaskFunction::Unserved,
+            _ => TaskFunction::Other,
         }
     }
 }
@@ -31,8 +31,8 @@ impl TaskFunction {
 /// What a request comes to. Which commands that wait it drops is said in `specs/Drops`.
 #[derive(Clone, Copy)]
 pub enum ManagementOutcome {
-    /// This response code (11.6.1).
+    /// A response with this code (11.6.1).
     Respond(u8),
-    /// A reset of this unit, which is there.
+    /// A reset of the unit with this number, which is there.
     Reset(u8),
 }

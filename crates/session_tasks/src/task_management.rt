@@ -43,7 +43,7 @@ pub fn drops(request: &TaskManagementRequest, command: &ScsiCommand) -> bool
         TaskFunction::AbortTaskSet | TaskFunction::LogicalUnitReset => {
             is_same_unit(&request.lun, &command.lun)
         }
-        TaskFunction::TaskReassign | TaskFunction::Unserved => false,
+        TaskFunction::TaskReassign | TaskFunction::Other => false,
     }
 }
 
@@ -73,7 +73,7 @@ fn managed(function: TaskFunction, dropped: bool, unit: Option<u8>) -> Managemen
 {
     match (function, unit) {
         (TaskFunction::TaskReassign, _) => ManagementOutcome::Respond(REASSIGNMENT_NOT_SUPPORTED),
-        (TaskFunction::Unserved, _) => ManagementOutcome::Respond(FUNCTION_NOT_SUPPORTED),
+        (TaskFunction::Other, _) => ManagementOutcome::Respond(FUNCTION_NOT_SUPPORTED),
         (
             TaskFunction::AbortTask | TaskFunction::AbortTaskSet | TaskFunction::LogicalUnitReset,
             None,
