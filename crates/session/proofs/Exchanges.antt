@@ -13,7 +13,7 @@ use Rattle.session_rules.specs.LoginPhase.{login_standing, login_after, IsLoginT
 use Rattle.session_rules.specs.Phases.{Transcript, Exchange, of_login, exchanges, NoneEnds, NoneBegins, IsLogin, IsLawful, of_turn}
 use Rattle.session_rules.proofs.AtEach.{all_append, at_each_more, at_each_none, at_each_of_more, at_each_of_none}
 use Rattle.session_stream.specs.Outbox.{OutboxValue}
-use Rattle.session_login.specs.LoginMachine.{MakesLoginTurn}
+use Rattle.session_login.specs.MakesLoginTurn.{MakesLoginTurn}
 use Rattle.session_full_feature.specs.{Counters.Counters, Counters.begun, MakesTurn.MakesTurn}
 use Rattle.session.proofs.Lawful.{Stands, stands_more, stands_none}
 use Rattle.session.specs.Stream.{PhasesValue, NextPhase, ExchangeOf, OpensWith, IsFresh, MakesExchange}

@@ -16,12 +16,12 @@ pub record TurnOf (s : Counters) (came : Incoming) (t : Turn) (s' : Counters) : 
   pub runs : Runs (bhs_of came) step mid t.call t.sent s'
 
 -- a turn of session, target and outbox: what came, what the session made of it, what the target was asked and where that
--- led it, the bytes that are to go out, and the end that it calls for
+-- led it, the bytes that are to go out, and the end that it calls for; `held` is what the sink has, `failures` how often it has failed
 pub record MakesTurn {T : Type 0} (leads : T → Asking → T → Type 0)
-    (s s' : Counters) (target target' : T) (held held' : Option (List ℕ)) (before now : ℕ) (o o' : OutboxValue)
+    (s s' : Counters) (target target' : T) (held held' : Option (List ℕ)) (failures failures' : ℕ) (outbox outbox' : OutboxValue)
     (came : Incoming) (wanted : Option End) : Type 0 where
   pub turn : Turn
   pub made : TurnOf s came turn s'
   pub led : IsLed leads turn.call target target'
-  pub queued : IsQueued held held' before now o o' (bytes_of turn.sent)
+  pub queued : IsQueued held held' failures failures' outbox outbox' (bytes_of turn.sent)
   pub wanted_is : wanted ≡ end_after turn.verdict turn.came turn.call

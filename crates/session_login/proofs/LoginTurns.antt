@@ -9,7 +9,7 @@ use Rattle.session_rules.specs.declared.target.BeginAnswer.{BeginAnswer}
 use Rattle.session_rules.specs.LoginPhase.{flags_of, port_of, outcome_of_begin, outcome_of_lives, IsNegotiated, HasOutcome, LoginStanding}
 use Rattle.session_rules.specs.LoginPhase.{progress_after, cmd_sn_in, login_numbers, login_outs}
 use Rattle.session_stream.specs.{declared.pdus.Pdus.Pdus, Pdus.sent_by, Outbox.OutboxValue, Outbox.IsQueued}
-use Rattle.session_login.specs.LoginMachine.{IsTextOf, MakesLoginTurn}
+use Rattle.session_login.specs.MakesLoginTurn.{IsResponseTextOf, MakesLoginTurn}
 use Rattle.login.specs.declared.status.LoginRefusal.TheVariants as refusals
 
 abbrev pub port_with : ℕ → List ℕ → Port
@@ -54,8 +54,8 @@ module _ {T : Type 0} (leads : T → Asking → T → Type 0) (v mid : LoginStan
       (pdus : Pdus) → m ≡ cmd_sn_in (pdu bhs h d)
       → (call : Option Asking) × IsLed leads call x y × HasOutcome mid.progress (pdu bhs h d) call outcome
       → v' ≡ record mid { progress = progress_after mid.progress (pdu bhs h d) }
-      → text ≡ stands → IsTextOf mid.progress h d outcome stands
-      → ((s : Progress) (b e : List ℕ) → IsTextOf s h e outcome text → sent_by b pdus ≡ login_outs n s (pdu b h e) outcome)
+      → text ≡ stands → IsResponseTextOf mid.progress h d outcome stands
+      → ((s : Progress) (b e : List ℕ) → IsResponseTextOf s h e outcome text → sent_by b pdus ≡ login_outs n s (pdu b h e) outcome)
       → IsQueued held held' before now o o' (bytes_of (sent_by bhs pdus))
       → MakesLoginTurn leads v v' x y held held' before now o o' (pdu bhs h d) outcome
   logged v' h d outcome text stands pdus cmd comes state same_text has_text outs queued =
@@ -63,7 +63,7 @@ module _ {T : Type 0} (leads : T → Asking → T → Type 0) (v mid : LoginStan
       let number : n ≡ login_numbers v (pdu bhs h d) = numbers
       ∙ ap (λ (k : Option ℕ). numbers_for v.stat_sn (unwrap_or (option_or v.first k) 0) 0) cmd in
       let sends : sent_by bhs pdus ≡ login_outs (login_numbers v (pdu bhs h d)) v.progress (pdu bhs h d) outcome =
-      outs v.progress bhs d (subst₂ (λ (s : Progress) (t : List ℕ). IsTextOf s h d outcome t) same (sym same_text) has_text)
+      outs v.progress bhs d (subst₂ (λ (s : Progress) (t : List ℕ). IsResponseTextOf s h d outcome t) same (sym same_text) has_text)
       ∙ ap (λ (k : Numbers). login_outs k v.progress (pdu bhs h d) outcome) number in
       record {
         turn = record {

@@ -1,1 +1,1 @@
-pub mod LoginMachine
+pub mod MakesLoginTurn

@@ -16,7 +16,7 @@ ghost use Rattle.session_rules.specs.LoginPhase.{flags_of, login_standing, cmd_s
 ghost use Rattle.session_rules.specs.LoginPhase.{outcome_of_lives, IsNegotiated, HasOutcome, progress_after, out};
 ghost use Rattle.session_rules.specs.LoginPhase.{passed_header, refusal_of, bare_header, login_outs, begins};
 ghost use Rattle.session_rules.specs.LoginPhase.{IsStart};
-ghost use Rattle.session_login.specs.LoginMachine.{HasText, IsTextOf};
+ghost use Rattle.session_login.specs.MakesLoginTurn.{IsResponseText, IsResponseTextOf};
 
 use byteorder::{BigEndian, ByteOrder};
 use iscsi_pdu::{
@@ -89,7 +89,7 @@ impl LoginPhase {
         ensures state { (bhs : List ℕ) → self.new ≡ record self.old {
           progress = progress_after self.old.progress (came bhs pdu.now.header pdu.now.data.now);
         } }
-        ensures text { IsTextOf self.old.progress pdu.now.header pdu.now.data.now result room.new.items }
+        ensures text { IsResponseTextOf self.old.progress pdu.now.header pdu.now.data.now result room.new.items }
         ensures short { length room.new.items ≤ LONGEST_RESPONSE }
         ensures kept { vec_capacity room.old ≤ vec_capacity room.new }
     {
@@ -122,7 +122,7 @@ impl LoginPhase {
             (answer_to self.old.progress (flags_of request.now) text.now) call result }
         ensures state { self.new
             ≡ record self.old { progress = after self.old.progress (flags_of request.now) text.now } }
-        ensures text { HasText (answer_to self.old.progress (flags_of request.now) text.now) result room.new.items }
+        ensures text { IsResponseText (answer_to self.old.progress (flags_of request.now) text.now) result room.new.items }
         ensures short { length room.new.items ≤ LONGEST_RESPONSE }
         ensures kept { vec_capacity room.old ≤ vec_capacity room.new }
     {
@@ -230,7 +230,7 @@ pub fn login_pdus<'a>(
     text: &'a [u8],
 ) -> Pdus<'a>
     requires short { length text.now ≤ LONGEST_RESPONSE }
-    ensures pdus { (s : Progress) (bhs d : List ℕ) → IsTextOf s header.now d outcome text.now
+    ensures pdus { (s : Progress) (bhs d : List ℕ) → IsResponseTextOf s header.now d outcome text.now
         → sent_by bhs result ≡ login_outs numbers s (came bhs header.now d) outcome }
     ensures within { AreInReach result }
 {

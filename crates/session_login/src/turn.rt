@@ -2,7 +2,7 @@
 ghost use Rattle.std.specs.Prelude.{◌<◌, ◌≤◌, length, vec_capacity};
 ghost use Rattle.session_rules.specs.Turn.{pdu as came, faulty};
 ghost use Rattle.session_rules.specs.Verdict.{reason_of};
-ghost use Rattle.session_login.specs.LoginMachine.{MakesLoginTurn};
+ghost use Rattle.session_login.specs.MakesLoginTurn.{MakesLoginTurn};
 ghost use Rattle.session_stream.specs.declared.outbox.TheConstants.{ENOUGH_TO_WRITE};
 
 use crate::login_phase::{LoginPhase, login_cmd_sn, login_pdus};
