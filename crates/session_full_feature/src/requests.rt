@@ -24,11 +24,8 @@ impl Session {
         ensures on { OnPdu self.old (Header.Initiator (InitiatorHeader.NopOut request)) bytes.now (said result) self.new }
         ensures within { AreInReach result.pdus }
     {
-        let verdict = self.verdict(
-            request.immediate,
-            request.numbers.cmd_sn,
-            self.is_open(request.task_tag),
-        );
+        let refused = self.is_open(request.task_tag);
+        let verdict = self.verdict(request.immediate, request.numbers.cmd_sn, refused);
         match self.turned_away(verdict) {
             Some(sending) => sending,
             None => self.answer_nop_out(request, bytes),
@@ -145,11 +142,8 @@ impl Session {
             → OnPdu self.old (Header.Initiator (InitiatorHeader.LogoutRequest request)) d (said result) self.new }
         ensures within { AreInReach result.pdus }
     {
-        let verdict = self.verdict(
-            request.immediate,
-            request.numbers.cmd_sn,
-            self.is_open(request.task_tag),
-        );
+        let refused = self.is_open(request.task_tag);
+        let verdict = self.verdict(request.immediate, request.numbers.cmd_sn, refused);
         match self.turned_away(verdict) {
             Some(sending) => sending,
             None => self.answer_logout(request),
