@@ -1,5 +1,5 @@
 //! A device whose calls have a deadline.
-ghost use Rattle.std.specs.Prelude.{◌≡◌, ◌<◌, ◌≤◌, ◌+◌, ◌^◌, true, [], false, min, length, IfOk, IfSome, IsErr, IsTrue, OnOk, OnErr};
+ghost use Rattle.std.specs.Prelude.{◌≡◌, ◌<◌, ◌≤◌, ◌+◌, ◌^◌, true, [], false, min, length, List, ℕ, IfOk, IfSome, IsErr, IsTrue, OnOk, OnErr};
 ghost use Rattle.std.proofs.Common.{arith};
 ghost use Rattle.block_file.specs.Cut.{IsRun};
 ghost use Rattle.block_file.specs.Failures.{Counts, last_count};
@@ -147,38 +147,23 @@ fn write_by<R: Wait + Clock + Drop, B: Blocks, O: Opener<B>>(
     is_written
 }
 
-// Flushes the device, by its thread.
-fn flush_by<R: Wait + Clock + Drop, B: Blocks, O: Opener<B>>(
+// Has the thread of the device do what takes no bytes: whether that was done.
+fn done_by<R: Wait + Clock + Drop, B: Blocks, O: Opener<B>>(
     asker: &mut Asker<R, Errand<B, O>>,
+    wanted: Wanted,
+    call: Call,
 ) -> bool
-    ensures { IsTrue result → HasFlushed B.claims B.contents B.may_hold }
+    ensures { IsTrue result → (bytes : List ℕ) × HasAnswered B.claims B.contents B.may_hold O.opened wanted bytes }
 {
     let Some(errand) = asker.take() else {
         return false;
     };
-    let Some(answered) = asker.ask(errand.with_room(Wanted::Flush, 0), Call::Flush) else {
+    let Some(answered) = asker.ask(errand.with_room(wanted, 0), call) else {
         return false;
     };
-    let is_flushed = answered.has_done(Wanted::Flush);
+    let is_done = answered.has_done(wanted);
     asker.keep(answered);
-    is_flushed
-}
-
-// Opens the device anew, by its thread.
-fn open_by<R: Wait + Clock + Drop, B: Blocks, O: Opener<B>>(
-    asker: &mut Asker<R, Errand<B, O>>,
-) -> bool
-    ensures { IsTrue result → HasOpened O.opened }
-{
-    let Some(errand) = asker.take() else {
-        return false;
-    };
-    let Some(answered) = asker.ask(errand.with_room(Wanted::Open, 0), Call::Open) else {
-        return false;
-    };
-    let is_opened = answered.has_done(Wanted::Open);
-    asker.keep(answered);
-    is_opened
+    is_done
 }
 
 impl<R: Wait + Clock + Drop, B: Blocks, O: Opener<B>> Deadlined<R, B, O> {
@@ -186,7 +171,7 @@ impl<R: Wait + Clock + Drop, B: Blocks, O: Opener<B>> Deadlined<R, B, O> {
     pub(crate) fn is_opened_anew(&self) -> bool
         ensures { IsTrue result → HasOpened O.opened }
     {
-        open_by(&mut self.asker.lock(&self.rt))
+        done_by(&mut self.asker.lock(&self.rt), Wanted::Open, Call::Open)
     }
 }
 
@@ -319,7 +304,7 @@ impl<R: Wait + Clock + Drop, B: Blocks, O: Opener<B>> Blocks for Deadlined<R, B,
         ensures written { self.new.writes ≡ self.old.writes }
         ensures opened { (self.new.opened ≡ self.old.opened) × (self.new.node ≡ self.old.node) }
     {
-        let is_flushed = flush_by(self.asker.get_mut());
+        let is_flushed = done_by(self.asker.get_mut(), Wanted::Flush, Call::Flush);
         ended(is_flushed, &mut self.failed_writes)
     }
 }
