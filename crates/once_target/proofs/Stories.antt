@@ -50,6 +50,18 @@ failed_more : (e : Entry) (history : List Entry)
     → failed_entries (e ∷ history) ≡ cond (has_failed e) 1 0 + failed_entries history
 failed_more e history = sum_by-cons (λ x. cond (has_failed x) 1 0) e history
 
+counted_failed : (before mid now : ℕ) (done : Type 0) (e : Entry) (history : List Entry) → has_failed e ≡ true → (done → ⊥)
+    → Tells before mid done → AreCounted mid now history → AreCounted before now (e ∷ history)
+counted_failed before mid now done e history failed undone t k =
+    let more : failed_entries (e ∷ history) ≡ 1 + failed_entries history =
+    failed_more e history ∙ ap (λ (b : Bool). cond b 1 0 + failed_entries history) failed in
+    record {
+      later = omega (arith, t.later, k.later);
+      at_most = λ room. let up : before < mid = t.rises (omega (arith, t.later, k.later)) undone in let rest = k.at_most room in
+          omega (arith, more);
+      only = λ room none. absurd (omega (arith, more));
+    }
+
 counted_more : (before mid now session serial : ℕ) (by_group : Group) (asked : Result ScsiCommand CdbFault)
     (bytes : List ℕ) (choice : Choice) (history : List Entry)
     → Tells before mid (IsFine choice) → AreCounted mid now history
@@ -63,44 +75,18 @@ counted_more before mid now session serial by_group asked bytes Fine history t k
       k.only room (omega (arith, failed_more (Command session serial by_group asked bytes Fine) history)) in omega
       arith;
 }
-counted_more before mid now session serial by_group asked bytes ReadFailed history t k = record {
-  later = omega (arith, t.later, k.later);
-  at_most = λ room. let up : before < mid =
-      t.rises (omega (arith, t.later, k.later)) (λ (e : false ≡ true). cc) in let rest =
-      k.at_most room in omega (arith, failed_more (Command session serial by_group asked bytes ReadFailed) history);
-  only = λ room none. absurd (omega (arith, failed_more (Command session serial by_group asked bytes ReadFailed) history));
-}
-counted_more before mid now session serial by_group asked bytes (WriteFailed after) history t k = record {
-  later = omega (arith, t.later, k.later);
-  at_most = λ room. let up : before < mid =
-      t.rises (omega (arith, t.later, k.later)) (λ (e : false ≡ true). cc) in let rest =
-      k.at_most room in omega (
-        arith,
-        failed_more
-            (Command session serial by_group asked bytes (WriteFailed after)) history,
-      );
-  only = λ room none. absurd
-      (omega (arith, failed_more (Command session serial by_group asked bytes (WriteFailed after)) history));
-}
-counted_more before mid now session serial by_group asked bytes OpenFailed history t k = record {
-  later = omega (arith, t.later, k.later);
-  at_most = λ room. let up : before < mid =
-      t.rises (omega (arith, t.later, k.later)) (λ (e : false ≡ true). cc) in let rest =
-      k.at_most room in omega (arith, failed_more (Command session serial by_group asked bytes OpenFailed) history);
-  only = λ room none. absurd (omega (arith, failed_more (Command session serial by_group asked bytes OpenFailed) history));
-}
-counted_more before mid now session serial by_group asked bytes (SaveFailed records) history t k = record {
-  later = omega (arith, t.later, k.later);
-  at_most = λ room. let up : before < mid =
-      t.rises (omega (arith, t.later, k.later)) (λ (e : false ≡ true). cc) in let rest =
-      k.at_most room in omega (
-        arith,
-        failed_more
-            (Command session serial by_group asked bytes (SaveFailed records)) history,
-      );
-  only = λ room none. absurd
-      (omega (arith, failed_more (Command session serial by_group asked bytes (SaveFailed records)) history));
-}
+counted_more before mid now session serial by_group asked bytes ReadFailed history t k =
+    counted_failed before mid now (IsFine ReadFailed) (Command session serial by_group asked bytes ReadFailed) history refl
+    (λ (e : false ≡ true). cc) t k
+counted_more before mid now session serial by_group asked bytes (WriteFailed after) history t k =
+    counted_failed before mid now (IsFine (WriteFailed after)) (Command session serial by_group asked bytes (WriteFailed after)) history refl
+    (λ (e : false ≡ true). cc) t k
+counted_more before mid now session serial by_group asked bytes OpenFailed history t k =
+    counted_failed before mid now (IsFine OpenFailed) (Command session serial by_group asked bytes OpenFailed) history refl
+    (λ (e : false ≡ true). cc) t k
+counted_more before mid now session serial by_group asked bytes (SaveFailed records) history t k =
+    counted_failed before mid now (IsFine (SaveFailed records)) (Command session serial by_group asked bytes (SaveFailed records)) history refl
+    (λ (e : false ≡ true). cc) t k
 
 -- the opener and the registration file never fail, so that the device alone counts
 tells_alone : (before now : ℕ) (done : Type 0) → Tells (before + 0 + 0) (now + 0 + 0) done → Tells before now done
