@@ -2,7 +2,7 @@
 ghost use Rattle.std.specs.Prelude.{◌≡◌, ◌<◌, ◌++◌, ◌∷◌, [], length, nat_eq, vec_capacity, IfOk, IfErr, OnErr};
 ghost use Rattle.std.specs.List.{list_any};
 ghost use Rattle.registrants.specs.Nexus.{through, same_port};
-ghost use Rattle.portal.specs.Live.{HasEntered, IsCauseOf, is_live, others, without};
+ghost use Rattle.portal.specs.Live.{HasEntered, IsCauseOf, is_live, is_older, others, without};
 
 use crate::connection::Connection;
 use crate::handles::{Handled, LAST_NUMBER, next_tsih};
@@ -86,10 +86,17 @@ fn is_of_port<C>(session: &LiveSession<C>, name: &[u8], isid: u64) -> bool
     session.port.isid() == isid && session.port.name() == name
 }
 
+// Whether a new session takes the place of this one: it is of the same port, group and kind (RFC 7143, 6.3.5).
+fn is_older<C>(session: &LiveSession<C>, new: &LiveSession<C>) -> bool
+    ensures { result ≡ is_older (through new.now.port new.now.group) new.now.kind session.now }
+{
+    session.kind == new.kind && session.group == new.group && session.port.same(&new.port)
+}
+
 // Ends the connection of the session whose place a new one takes.
 fn shut_older<C: Connection>(live: &[LiveSession<C>], new: &LiveSession<C>) {
     for session in live {
-        if session.kind == new.kind && session.group == new.group && session.port.same(&new.port) {
+        if is_older(session, new) {
             session.connection.shut();
         }
     }
@@ -109,9 +116,7 @@ fn replace<C: Drop>(live: &mut Vec<LiveSession<C>>, new: LiveSession<C>)
     requires { length live.old.items < vec_capacity live.old }
     ensures { live.new.items ≡ others (through new.port new.group) new.kind live.old.items ++ new ∷ [] }
 {
-    live.retain(|session| {
-        !(session.kind == new.kind && session.group == new.group && session.port.same(&new.port))
-    });
+    live.retain(|session| !is_older(session, &new));
     live.push_reserved(new);
 }
 
