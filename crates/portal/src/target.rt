@@ -20,7 +20,7 @@ use identity::absent;
 use login::SessionType;
 use scsi_types::{Asked, Group, NoMemory, PortName};
 use session::{BeginAnswer, ResetAnswer, Target, TargetAnswer};
-use std::alloc::{AllocError, Global};
+use std::alloc::Global;
 use std::marker::Model;
 use std::sync::Wait;
 
@@ -39,16 +39,6 @@ pub enum BeginFault {
     NoNumber,
     /// There was no memory.
     NoMemory,
-}
-
-impl From<AllocError> for BeginFault {
-    ghost use Rattle.portal.specs.declared.target.BeginFault.TheVariants.{NoMemory};
-
-    ghost from_gives = { λ _ fault. fault ≡ NoMemory };
-
-    fn from(_: AllocError) -> BeginFault {
-        BeginFault::NoMemory
-    }
 }
 
 impl From<EnterFault> for BeginFault {
