@@ -19,34 +19,30 @@ use Rattle.portal.specs.declared.target.BeginFault.{BeginFault}
 use Rattle.portal.specs.declared.target.BeginFault.TheVariants as faults
 
 module _ (claims : Claims) (opening : ℕ → UnitState) where
-  -- for want of memory, before it was attached to a unit
-  pub at_once : (nexus : Nexus) (kind : SessionType) (units : ℕ) (seen : List Sight)
-      → IsTurnedBack claims opening nexus kind units faults.NoMemory seen seen
-  at_once nexus kind units seen =
+  -- before it was attached to a unit
+  unattached : (nexus : Nexus) (kind : SessionType) (units : ℕ) (seen : List Sight) (fault : BeginFault)
+      → IsCauseOf claims opening nexus kind units [] fault [] → IsTurnedBack claims opening nexus kind units fault seen seen
+  unattached nexus kind units seen fault cause =
       record {
         at = [];
         attached = tt;
         left = [];
         over = tt;
         full = [];
-        cause = refl;
+        cause = cause;
         ends = sym (append-nil seen) ∙ sym (append-nil (seen ++ []));
       }
 
-  -- for what its port's name lacks, or for want of memory, before it was attached to a unit
+  -- for want of memory
+  pub at_once : (nexus : Nexus) (kind : SessionType) (units : ℕ) (seen : List Sight)
+      → IsTurnedBack claims opening nexus kind units faults.NoMemory seen seen
+  at_once nexus kind units seen = unattached nexus kind units seen faults.NoMemory refl
+
+  -- for what its port's name lacks, or for want of memory
   pub unnamed : (nexus : Nexus) (kind : SessionType) (units : ℕ) (seen : List Sight) (fault : BeginFault)
       → IsUnnamed nexus.port fault → IsTurnedBack claims opening nexus kind units fault seen seen
   unnamed nexus kind units seen faults.Begun is = absurd is
-  unnamed nexus kind units seen faults.NoPortName is =
-      record {
-        at = [];
-        attached = tt;
-        left = [];
-        over = tt;
-        full = [];
-        cause = (refl, refl, is);
-        ends = sym (append-nil seen) ∙ sym (append-nil (seen ++ []));
-      }
+  unnamed nexus kind units seen faults.NoPortName is = unattached nexus kind units seen faults.NoPortName (refl, refl, is)
   unnamed nexus kind units seen (faults.NoRoom unit) is = absurd is
   unnamed nexus kind units seen faults.NoTsih is = absurd is
   unnamed nexus kind units seen faults.NoNumber is = absurd is
@@ -60,16 +56,7 @@ module _ (claims : Claims) (opening : ℕ → UnitState) where
 
   pub at_none : (nexus : Nexus) (units : ℕ) (seen : List Sight) (fault : EnterFault)
       → IsTurnedBack claims opening nexus Discovery units (fault_of fault) seen seen
-  at_none nexus units seen fault =
-      record {
-        at = [];
-        attached = tt;
-        left = [];
-        over = tt;
-        full = [];
-        cause = alone nexus units fault;
-        ends = sym (append-nil seen) ∙ sym (append-nil (seen ++ []));
-      }
+  at_none nexus units seen fault = unattached nexus Discovery units seen (fault_of fault) (alone nexus units fault)
 
   -- at a unit behind those that it was attached to, and has left
   pub at_a_unit : {H : Type 0} (f : H → Sight) (nexus : Nexus) (units unit : ℕ) (at : List At) (old : List Sight) (mid new : List H)
