@@ -1,4 +1,5 @@
-//! What follows of what sessions hand out when they have left a unit.
+//! What follows of what sessions hand out when they have left a unit: each command is one step of one sequential logical unit, and its
+//! status, sense and data are what the model gives at one point of one history. `docs/CLAIMS.md` has the whole statement.
 ghost use Rattle.std.specs.Prelude.{◌≡◌, ◌⊎◌, All, AllPairs, List, ℕ, false, true, length};
 ghost use mathlib.Core.List.{IsPrefix};
 ghost use Rattle.unit_control.specs.State.{UnitState};
@@ -24,9 +25,9 @@ pub fn what_was_told_stands_in_one_history<U: LogicalUnits<P, H>, P: Pass, H: Dr
         × AreAlike (λ n. n ≡ length is.before) s history told }
 {}
 
-/// So it is for all sessions that have left a unit together: there is one legal history in which each of their commands stands as it was
-/// asked and answered. What a session has seen leads to the same state at each place as the beginning of that history, and differs from
-/// it in own entries of these sessions alone.
+/// So it is for all sessions that have left a unit, where no two have one number: there is one legal history in which each of their
+/// commands stands as it was asked and answered. What a session has seen leads to the same state at each place as the beginning of that
+/// history, and differs from it in own entries of these sessions alone.
 pub fn all_that_was_told_stands_in_one_history<U: LogicalUnits<P, H>, P: Pass, H: Drop, G: Gate>()
     ensures { (s : UnitState) (unit : ℕ) (leavers : List (Leaver U.claims (late_at (late_of G.is_late G.lasts) unit) s))
         → AllPairs (AreTwo U.claims (late_at (late_of G.is_late G.lasts) unit) s) leavers
@@ -40,9 +41,9 @@ pub fn two_sessions_share_no_entry<U: LogicalUnits<P, H>, P: Pass, H: Drop, G: G
     ensures attach { (s : UnitState) (unit : ℕ) (nexus : Nexus) (done : List Done) (history : List Entry)
         → (is : HasDone U.claims (late_at (late_of G.is_late G.lasts) unit) s nexus done history)
         → IsAttachOf nexus (length is.before) history }
-    ensures apart { (one two : ℕ) (e : Entry) → is_own one e ≡ true → is_own two e ≡ true → one ≡ two }
-    ensures nexus { (nexus other : Nexus) (session : ℕ) (one two : List Entry) → IsPrefix one two ⊎ IsPrefix two one
-        → IsAttachOf nexus session one → IsAttachOf other session two → nexus ≡ other }
+    ensures apart { (session other : ℕ) (e : Entry) → is_own session e ≡ true → is_own other e ≡ true → session ≡ other }
+    ensures nexus { (nexus other : Nexus) (session : ℕ) (first second : List Entry) → IsPrefix first second ⊎ IsPrefix second first
+        → IsAttachOf nexus session first → IsAttachOf other session second → nexus ≡ other }
 {
     serials_count_commands();
 }
