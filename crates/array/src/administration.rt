@@ -1,12 +1,10 @@
 //! What administrators reach the array by, beside its console: the window and the control socket.
 
+use crate::administered::Administered;
 use crate::collector::ArrayCollector;
 use crate::control::{self, ControlSocket};
-use crate::served::Served;
-use block_file::{Blocks, Opener};
 use command_line::{Fault, Options};
 use event_log::Log;
-use portal::Gate;
 use std::alloc::Global;
 use std::fs::File;
 use std::net::{Net, TcpListener};
@@ -16,8 +14,6 @@ use std::rt::Files;
 use std::sync::{Arc, Wait};
 use std::thread::Threads;
 use std::time::Clock;
-use unit_history::Opened;
-use unit_sequence::Array as Naming;
 
 /// What administrators are to reach the array by.
 #[derive(Drop)]
@@ -77,19 +73,15 @@ pub(crate) fn open<R: Files<File = File> + Net + Clock>(
     })
 }
 
-/// Answers at both sockets, by threads of their own, for what is served.
+/// Answers at both sockets, by threads of their own, for an array that is served.
 pub(crate) fn answer<
-    N: Naming<Opened> + Send + Sync + 'static,
-    B: Blocks + Send + Sync + 'static,
-    F: Blocks + Send + Sync + 'static,
-    O: Opener<B> + Send + Sync + 'static,
-    G: Gate + Drop + Send + Sync + 'static,
     R: Threads + Wait + Clock + RandomSource + Clone + Drop + Send + Sync + 'static,
+    A: Administered + Drop + Send + Sync + 'static,
 >(
     rt: &R,
     alloc: Global,
     options: &Options<'_>,
-    server: &Served<B, F, O, N, G>,
+    array: &Arc<A, Global>,
     sockets: Sockets,
 ) -> Result<(), Fault> {
     let Sockets {
@@ -98,15 +90,15 @@ pub(crate) fn answer<
         control,
     } = sockets;
     if let Some(listener) = http {
-        let served = Arc::try_clone(server)?;
-        let collector = ArrayCollector::new(rt.clone()?, alloc, options, version, served)?;
+        let array = Arc::try_clone(array)?;
+        let collector = ArrayCollector::new(rt.clone()?, alloc, options, version, array)?;
         if window::open(rt, alloc, listener, collector).is_err() {
             return Err(Fault::NoMemory);
         }
     }
     if let Some(listener) = control {
-        let served = Arc::try_clone(server)?;
-        let control = ControlSocket::new(rt.clone()?, version, served);
+        let array = Arc::try_clone(array)?;
+        let control = ControlSocket::new(rt.clone()?, version, array);
         if control::answer(rt, alloc, listener, control).is_err() {
             return Err(Fault::NoMemory);
         }

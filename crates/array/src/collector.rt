@@ -1,20 +1,17 @@
 //! What the window collects of the array.
 
-use crate::registrations::registrations;
-use array_units::Units;
-use block_file::{Blocks, Opener};
+use crate::administered::Administered;
 use command_line::Options;
 use event_log::{BOUNDS, Seen};
-use portal::{Controllers, Server};
 use scsi_types::Group;
 use status::Row;
 use std::alloc::{AllocError, Global};
 use std::net::SocketAddrV4;
 use std::sync::{Arc, Wait};
 use std::time::{Clock, Duration};
-use unit_history::Opened;
-use unit_sequence::Array as Naming;
-use window::{ArrayView, Collector, Controller, Registration, SessionView, Signs, UnitView};
+use window::{
+    ArrayView, Collector, Controller, PathView, Registration, SessionView, Signs, UnitView,
+};
 
 /// What the array was asked to be, as it is shown.
 #[derive(Drop)]
@@ -26,28 +23,20 @@ struct Asked {
 }
 
 /// What collects the state of the array while it is served.
-pub(crate) struct ArrayCollector<
-    R: Wait + Clock + Drop,
-    B: Blocks,
-    F: Blocks,
-    O: Opener<B>,
-    N: Naming<Opened>,
-    G: Drop,
-> {
+pub(crate) struct ArrayCollector<R: Wait + Clock + Drop, A: Administered + Drop> {
     rt: R,
-    server: Arc<Server<Controllers<B, F, O, N>, G>, Global>,
+    array: Arc<A, Global>,
     asked: Asked,
     // When it began to be served: after the beginning of 1970, and of the clock that never goes back.
     since: Duration,
     began: Duration,
 }
 
-impl<R: Wait + Clock + Drop, B: Blocks, F: Blocks, O: Opener<B>, N: Naming<Opened>, G: Drop> Drop
-    for ArrayCollector<R, B, F, O, N, G> {
+impl<R: Wait + Clock + Drop, A: Administered + Drop> Drop for ArrayCollector<R, A> {
     fn drop(self) {
         let Self {
             rt: _,
-            server: _,
+            array: _,
             asked: _,
             since: _,
             began: _,
@@ -84,6 +73,21 @@ fn files_of(alloc: Global, disks: &[String], place: usize) -> Result<(String, St
     Ok((disk, file))
 }
 
+// A unit by each controller.
+fn paths_of(
+    alloc: Global,
+    place: usize,
+    row: Row,
+    seen: &Seen,
+) -> Result<Vec<PathView>, AllocError> {
+    let first = place.saturating_mul(2);
+    let second = first.saturating_add(1);
+    let mut paths = Vec::new(alloc);
+    paths.push(window::path(alloc, 1, row.states.0, seen.counts.get(first))?)?;
+    paths.push(window::path(alloc, 2, row.states.1, seen.counts.get(second))?)?;
+    Ok(paths)
+}
+
 // A unit.
 fn unit_of(
     alloc: Global,
@@ -94,17 +98,7 @@ fn unit_of(
     seen: &Seen,
 ) -> Result<UnitView, AllocError> {
     let (disk, registration_file) = files_of(alloc, disks, place)?;
-    let of_first = place.saturating_mul(2);
-    let first = window::path(alloc, 1, row.states.0, seen.counts.get(of_first))?;
-    let second = window::path(
-        alloc,
-        2,
-        row.states.1,
-        seen.counts.get(of_first.saturating_add(1)),
-    )?;
-    let mut paths = Vec::new(alloc);
-    paths.push(first)?;
-    paths.push(second)?;
+    let paths = paths_of(alloc, place, row, seen)?;
     let oldest = seen.oldest.get(place).copied().unwrap_or(0);
     let signs = Signs::of(&seen.happened, place, oldest);
     Ok(UnitView {
@@ -152,6 +146,20 @@ fn controller_of(
     })
 }
 
+// Both.
+fn controllers_of<A: Administered>(
+    alloc: Global,
+    array: &A,
+    seen: &Seen,
+) -> Result<Vec<Controller>, AllocError> {
+    let mut controllers = Vec::new(alloc);
+    for group in &[Group::One, Group::Two] {
+        let group = *group;
+        controllers.push(controller_of(alloc, group, array.portals(group), seen)?)?;
+    }
+    Ok(controllers)
+}
+
 // Sessions.
 fn sessions_of(alloc: Global, seen: &Seen) -> Result<Vec<SessionView>, AllocError> {
     let mut sessions = Vec::with_capacity(alloc, seen.sessions.len())?;
@@ -162,17 +170,19 @@ fn sessions_of(alloc: Global, seen: &Seen) -> Result<Vec<SessionView>, AllocErro
 }
 
 // The units, as their boards show them.
-fn units_of<R: Wait, B: Blocks, F: Blocks, O: Opener<B>, N: Naming<Opened>>(
+fn units_of<R: Wait, A: Administered>(
     rt: &R,
     alloc: Global,
-    units: &Units<B, F, O, N>,
+    array: &A,
     disks: &[String],
     seen: &Seen,
 ) -> Result<Vec<UnitView>, AllocError> {
     let mut found = Vec::new(alloc);
-    for place in 0..units.count() {
-        let row = units.read(rt, place);
-        let registrations = registrations(alloc, units, place);
+    for place in 0..array.count() {
+        let Some(row) = array.row(rt, place) else {
+            break;
+        };
+        let registrations = array.registrations(alloc, place);
         found.push(unit_of(alloc, place, row, registrations, disks, seen)?)?;
     }
     Ok(found)
@@ -183,27 +193,20 @@ fn micros(time: Duration) -> u64 {
     u64::try_from(time.as_micros()).unwrap_or(u64::MAX)
 }
 
-impl<
-    R: Wait + Clock + Drop,
-    B: Blocks,
-    F: Blocks,
-    O: Opener<B>,
-    N: Naming<Opened>,
-    G: Drop,
-> ArrayCollector<R, B, F, O, N, G> {
-    /// What collects the state of what this serves.
+impl<R: Wait + Clock + Drop, A: Administered + Drop> ArrayCollector<R, A> {
+    /// What collects the state of this array.
     pub(crate) fn new(
         rt: R,
         alloc: Global,
         options: &Options<'_>,
         version: &'static str,
-        server: Arc<Server<Controllers<B, F, O, N>, G>, Global>,
-    ) -> Result<ArrayCollector<R, B, F, O, N, G>, AllocError> {
+        array: Arc<A, Global>,
+    ) -> Result<ArrayCollector<R, A>, AllocError> {
         let since = rt.since_1970().unwrap_or(Duration::ZERO);
         let began = rt.monotonic().unwrap_or(Duration::ZERO);
         Ok(ArrayCollector {
             rt,
-            server,
+            array,
             asked: asked_by(alloc, options, version)?,
             since,
             began,
@@ -212,36 +215,21 @@ impl<
 
     // What is counted now.
     fn seen(&self, alloc: Global, now: Duration) -> Result<Seen, AllocError> {
-        match self.server.log.meters() {
+        match self.array.log().meters() {
             Some(meters) => meters.look(&self.rt, alloc, now),
             None => Err(AllocError),
         }
     }
 }
 
-impl<
-    R: Wait + Clock + Drop,
-    B: Blocks,
-    F: Blocks,
-    O: Opener<B>,
-    N: Naming<Opened>,
-    G: Drop,
-> Collector for ArrayCollector<R, B, F, O, N, G> {
+impl<R: Wait + Clock + Drop, A: Administered + Drop> Collector for ArrayCollector<R, A> {
     fn collect(&self, alloc: Global) -> Result<ArrayView, AllocError> {
         let now = self.rt.monotonic().unwrap_or(self.began);
         let seen = self.seen(alloc, now)?;
-        let server = &self.server;
-        let units = units_of(
-            &self.rt,
-            alloc,
-            server.device.units.units(),
-            &self.asked.disks,
-            &seen,
-        )?;
-        let mut controllers = Vec::new(alloc);
-        controllers.push(controller_of(alloc, Group::One, &server.first, &seen)?)?;
-        controllers.push(controller_of(alloc, Group::Two, &server.second, &seen)?)?;
-        let problems = window::problems(alloc, &units, server.log.is_failing())?;
+        let array: &A = &self.array;
+        let units = units_of(&self.rt, alloc, array, &self.asked.disks, &seen)?;
+        let controllers = controllers_of(alloc, array, &seen)?;
+        let problems = window::problems(alloc, &units, array.log().is_failing())?;
         Ok(ArrayView {
             version: self.asked.version,
             target: self.asked.target.clone()?,

@@ -1,13 +1,9 @@
 //! The control socket: lines for what the console's rules leave no room for.
 
-use crate::lines::{say_status, text_of};
-use crate::operated::Operated;
-use crate::registrations::registrations;
-use crate::served::Served;
-use block_file::{Blocks, Opener};
+use crate::administered::Administered;
+use crate::lines::text_of;
 use command_line::Fault;
 use event_log::{Event, Log};
-use portal::Gate;
 use scsi_types::Group;
 use std::alloc::{AllocError, Global};
 use std::fs::{self, File, Permissions};
@@ -16,11 +12,9 @@ use std::net::Net;
 use std::os::unix::fs::PermissionsExt;
 use std::os::unix::net::{UnixListener, UnixStream};
 use std::rt::Files;
-use std::sync::Wait;
+use std::sync::{Arc, Wait};
 use std::thread::{self, Builder, JoinHandle, Threads};
 use std::time::{Clock, Duration};
-use unit_history::Opened;
-use unit_sequence::Array as Naming;
 use window::{Registration, SessionView};
 
 /// Its owner may read and write.
@@ -51,26 +45,18 @@ help        these lines
 ";
 
 /// The control socket's way to an array that is served.
-pub(crate) struct ControlSocket<
-    R: Wait + Clock + Drop,
-    B: Blocks,
-    F: Blocks,
-    O: Opener<B>,
-    N: Naming<Opened>,
-    G: Drop,
-> {
+pub(crate) struct ControlSocket<R: Wait + Clock + Drop, A: Administered + Drop> {
     rt: R,
     version: &'static str,
-    server: Served<B, F, O, N, G>,
+    array: Arc<A, Global>,
 }
 
-impl<R: Wait + Clock + Drop, B: Blocks, F: Blocks, O: Opener<B>, N: Naming<Opened>, G: Drop> Drop
-    for ControlSocket<R, B, F, O, N, G> {
+impl<R: Wait + Clock + Drop, A: Administered + Drop> Drop for ControlSocket<R, A> {
     fn drop(self) {
         let Self {
             rt: _,
             version: _,
-            server: _,
+            array: _,
         } = self;
     }
 }
@@ -116,32 +102,17 @@ fn say_end<W: Write>(writer: &mut W, is_ended: bool) -> io::Result<()> {
     }
 }
 
-impl<
-    R: Wait + Clock + Drop,
-    B: Blocks,
-    F: Blocks,
-    O: Opener<B>,
-    N: Naming<Opened>,
-    G: Drop,
-> ControlSocket<R, B, F, O, N, G> {
+impl<R: Wait + Clock + Drop, A: Administered + Drop> ControlSocket<R, A> {
     /// That to this array, by which this version is told.
-    pub(crate) fn new(
-        rt: R,
-        version: &'static str,
-        server: Served<B, F, O, N, G>,
-    ) -> ControlSocket<R, B, F, O, N, G> {
-        ControlSocket {
-            rt,
-            version,
-            server,
-        }
+    pub(crate) fn new(rt: R, version: &'static str, array: Arc<A, Global>) -> ControlSocket<R, A> {
+        ControlSocket { rt, version, array }
     }
 
     // The sessions that are logged in.
     fn sessions(&self, alloc: Global) -> Result<Vec<SessionView>, AllocError> {
         let now = self.rt.monotonic().unwrap_or(Duration::ZERO);
         let mut sessions = Vec::new(alloc);
-        if let Some(meters) = self.server.log.meters() {
+        if let Some(meters) = self.array.log().meters() {
             for seen in &meters.look(&self.rt, alloc, now)?.sessions {
                 sessions.push(window::session(alloc, seen)?)?;
             }
@@ -156,16 +127,8 @@ impl<
         Ok(())
     }
 
-    fn operated(&self) -> Operated<'_, R, B, F, O, N> {
-        Operated {
-            rt: &self.rt,
-            controllers: &self.server.device.units,
-            log: &self.server.log,
-        }
-    }
-
     fn say_up<W: Write>(&self, writer: &mut W, controller: Group) -> io::Result<()> {
-        match self.operated().up(controller) {
+        match self.array.up(&self.rt, controller) {
             Ok(()) => writeln!(writer, "up"),
             Err(unit) => writeln!(writer, "not moved {unit}"),
         }
@@ -173,11 +136,11 @@ impl<
 
     // Writes the registrations of a unit.
     fn say_keys<W: Write>(&self, alloc: Global, writer: &mut W, unit: u8) -> io::Result<()> {
-        let units = self.server.device.units.units();
-        if usize::from(unit) >= units.count() {
+        let place = usize::from(unit);
+        if place >= self.array.count() {
             return writeln!(writer, "no unit");
         }
-        let Some(registrations) = registrations(alloc, units, usize::from(unit)) else {
+        let Some(registrations) = self.array.registrations(alloc, place) else {
             return writeln!(writer, "busy");
         };
         for registration in &registrations {
@@ -196,7 +159,7 @@ impl<
         if let Some(number) = text.strip_prefix("end ")
             && let Ok(tsih) = number.parse::<u16>()
         {
-            let is_ended = self.server.device.sessions.lock(&self.rt).shut(tsih);
+            let is_ended = self.array.shut(&self.rt, tsih);
             return say_end(writer, is_ended);
         }
         writeln!(writer, "?")
@@ -206,7 +169,7 @@ impl<
     fn answer<W: Write>(&self, alloc: Global, writer: &mut W, line: &[u8]) -> io::Result<()> {
         let version = self.version;
         match text_of(line) {
-            Some("status") => say_status(writer, &mut self.operated()),
+            Some("status") => self.array.say_status(&self.rt, writer),
             Some("up 1") => self.say_up(writer, Group::One),
             Some("up 2") => self.say_up(writer, Group::Two),
             Some("sessions") => self.say_sessions(alloc, writer),
@@ -304,18 +267,9 @@ pub(crate) fn remove(rt: &impl Files, path: Option<&str>) {
 
 /// Answers at the control socket, by a thread of its own.
 pub(crate) fn answer<
-    N: Naming<Opened> + Send + Sync + 'static,
-    B: Blocks + Send + Sync + 'static,
-    F: Blocks + Send + Sync + 'static,
-    O: Opener<B> + Send + Sync + 'static,
-    G: Gate + Drop + Send + Sync + 'static,
     R: Threads + Wait + Clock + Clone + Drop + Send + Sync + 'static,
->(
-    rt: &R,
-    alloc: Global,
-    listener: UnixListener,
-    control: ControlSocket<R, B, F, O, N, G>,
-) -> io::Result<()> {
+    A: Administered + Drop + Send + Sync + 'static,
+>(rt: &R, alloc: Global, listener: UnixListener, control: ControlSocket<R, A>) -> io::Result<()> {
     let work = move || control.accept(alloc, &listener);
     let _thread: JoinHandle<()> = Builder::new().stack_size(STACK).spawn(rt, work)?;
     Ok(())

@@ -1,6 +1,7 @@
 //! The array: its units over files, its portals, its console.
 #![tactic(auto)]
 
+mod administered;
 mod administration;
 mod collector;
 mod control;

@@ -1,5 +1,6 @@
 //! The array as its console sees it.
 use crate::lines::Operations;
+use array_units::Units;
 use block_file::{Blocks, Opener};
 use command_line::MAX_UNITS;
 use event_log::{Access, By, Event, Log, Stayed};
@@ -46,6 +47,18 @@ fn concerns(controller: Group, place: usize, states: (u64, u64)) -> bool {
         Group::Two => states.1,
     };
     preferred(place) == controller || state == UNAVAILABLE
+}
+
+/// The row of the unit at a place, where there is one.
+pub(crate) fn row_at<R: Wait, B: Blocks, F: Blocks, O: Opener<B>, N: Naming<Opened>>(
+    rt: &R,
+    units: &Units<B, F, O, N>,
+    place: usize,
+) -> Option<Row> {
+    if place >= units.count() {
+        return None;
+    }
+    Some(units.read(rt, place))
 }
 
 impl<R: Wait + Clock, B: Blocks, F: Blocks, O: Opener<B>, N: Naming<Opened>> Operated<
@@ -124,12 +137,7 @@ impl<R: Wait + Clock, B: Blocks, F: Blocks, O: Opener<B>, N: Naming<Opened>> Ope
 impl<R: Wait + Clock, B: Blocks, F: Blocks, O: Opener<B>, N: Naming<Opened>> Operations
     for Operated<'_, R, B, F, O, N> {
     fn status(&mut self, unit: u8) -> Option<Row> {
-        let place = usize::from(unit);
-        let units = self.controllers.units();
-        if place >= units.count() {
-            return None;
-        }
-        Some(units.read(self.rt, place))
+        row_at(self.rt, self.controllers.units(), usize::from(unit))
     }
 
     fn down(&mut self, controller: Group) -> Result<(), usize> {

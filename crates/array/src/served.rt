@@ -206,7 +206,7 @@ fn serve_units<
     let first = start::<N, B, F, O, G, R>(rt, alloc, &server, Group::One)?;
     let second = start::<N, B, F, O, G, R>(rt, alloc, &server, Group::Two)?;
     let lanes = (first, second);
-    answer::<N, B, F, O, G, R>(rt, alloc, options, &server, sockets)?;
+    answer::<R, Server<Controllers<B, F, O, N>, G>>(rt, alloc, options, &server, sockets)?;
     accept_at::<N, B, F, O, G, R>(rt, alloc, &server, portals, &lanes)?;
     Ok(server)
 }
