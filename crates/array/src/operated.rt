@@ -17,6 +17,9 @@ use unit_state::MoveFault;
 /// The code of the access state unavailable (SPC-4, 5.15.2.2).
 const UNAVAILABLE: u64 = 3;
 
+/// The access states of both groups at each unit.
+type States = [(u64, u64); MAX_UNITS];
+
 /// Both controllers, as the console sees them.
 #[derive(Drop)]
 pub struct Operated<'a, R: Wait + Clock, B: Blocks, F: Blocks, O: Opener<B>, N: Naming<Opened>> {
@@ -49,6 +52,35 @@ fn concerns(controller: Group, place: usize, states: (u64, u64)) -> bool {
     preferred(place) == controller || state == UNAVAILABLE
 }
 
+// Tells what a move of units came to: of each at which the states are others than before, the owner that it got; and of the one
+// that stays, if one does.
+fn tell_moves<R: Clock>(
+    rt: &R,
+    log: &Log,
+    before: &States,
+    after: &States,
+    owners: &[Group; MAX_UNITS],
+    end: Result<(), NotMoved>,
+) -> Result<(), usize> {
+    for (place, ((before, after), owner)) in before.iter().zip(after).zip(owners).enumerate() {
+        if before != after {
+            let owner = u16::from(owner.number());
+            let (first, second) = (Access::of(after.0), Access::of(after.1));
+            let set = Event::GroupsSet(number(place), owner, first, second, By::Console);
+            log.tell(rt, &set);
+        }
+    }
+    let Err(NotMoved { unit, why }) = end else {
+        return Ok(());
+    };
+    if let Some(owner) = owners.get(unit) {
+        let owner = u16::from(owner.number());
+        let stays = Event::NotMoved(number(unit), owner, stayed(why), By::Console);
+        log.tell(rt, &stays);
+    }
+    Err(unit)
+}
+
 /// The row of the unit at a place, where there is one.
 pub(crate) fn row_at<R: Wait, B: Blocks, F: Blocks, O: Opener<B>, N: Naming<Opened>>(
     rt: &R,
@@ -70,7 +102,7 @@ impl<R: Wait + Clock, B: Blocks, F: Blocks, O: Opener<B>, N: Naming<Opened>> Ope
     N,
 > {
     // The access states of the groups at each unit.
-    fn states(&self) -> [(u64, u64); MAX_UNITS] {
+    fn states(&self) -> States {
         let units = self.controllers.units();
         let mut states = [(0, 0); MAX_UNITS];
         for (place, kept) in states.iter_mut().enumerate() {
@@ -79,38 +111,6 @@ impl<R: Wait + Clock, B: Blocks, F: Blocks, O: Opener<B>, N: Naming<Opened>> Ope
             }
         }
         states
-    }
-
-    // Tells what a move of units came to: of each at which the states are others than before, the owner that it got; and of the
-    // one that stays, if one does.
-    fn tell_moves(
-        &self,
-        before: &[(u64, u64); MAX_UNITS],
-        owners: &[Group; MAX_UNITS],
-        end: Result<(), NotMoved>,
-    ) -> Result<(), usize> {
-        for (place, ((before, now), owner)) in before
-            .iter()
-            .zip(&self.states())
-            .zip(owners)
-            .enumerate()
-        {
-            if before != now {
-                let owner = u16::from(owner.number());
-                let (first, second) = (Access::of(now.0), Access::of(now.1));
-                let set = Event::GroupsSet(number(place), owner, first, second, By::Console);
-                self.log.tell(self.rt, &set);
-            }
-        }
-        let Err(NotMoved { unit, why }) = end else {
-            return Ok(());
-        };
-        if let Some(owner) = owners.get(unit) {
-            let owner = u16::from(owner.number());
-            let stays = Event::NotMoved(number(unit), owner, stayed(why), By::Console);
-            self.log.tell(self.rt, &stays);
-        }
-        Err(unit)
     }
 
     /// Brings a controller up, unit by unit: each that prefers it gets it as its owner, and it is active/non-optimized for each
@@ -130,7 +130,7 @@ impl<R: Wait + Clock, B: Blocks, F: Blocks, O: Opener<B>, N: Naming<Opened>> Ope
         }
         let mut mover = Mover::new(self.controllers.units());
         let end = bring_up(self.rt, &mut mover, &chosen);
-        self.tell_moves(&before, &owners, end)
+        tell_moves(self.rt, self.log, &before, &self.states(), &owners, end)
     }
 }
 
@@ -144,7 +144,8 @@ impl<R: Wait + Clock, B: Blocks, F: Blocks, O: Opener<B>, N: Naming<Opened>> Ope
         let before = self.states();
         let mut mover = Mover::new(self.controllers.units());
         let end = take_down(self.rt, &mut mover, controller);
-        self.tell_moves(&before, &[controller.other(); MAX_UNITS], end)
+        let owners = [controller.other(); MAX_UNITS];
+        tell_moves(self.rt, self.log, &before, &self.states(), &owners, end)
     }
 
     fn close(&mut self) {
