@@ -22,12 +22,13 @@ use unit_state::{Unit, laws};
 /// A unit over a file, with the registration file beside it.
 type FileUnit<R> = Unit<FileBlocks<SystemFile>, NamedBlocks<R>, FileOpener<R>>;
 
-/// An array before it is served: its units, the preparers of their disks, and the locks of their files, for as long as it is served.
+/// An array before it is served: its units, the preparers of their disks, and the locks of both files of each, for as long as it is
+/// served.
 #[derive(Drop)]
 pub struct OpenArray<B: Blocks, F: Blocks, O: Opener<B>, P> {
     pub units: Vec<NewUnit<B, F, O>>,
     pub preparers: Vec<P>,
-    pub locks: Vec<DiskLock>,
+    pub locks: Vec<[DiskLock; 2]>,
 }
 
 /// One over files.
@@ -236,10 +237,9 @@ pub fn open<R: Files<File = File> + Clock + Wait + Clone + Drop>(
             array: options.array,
         };
         let path = options.paths[usize::from(unit)];
-        let (opened, [disk, registrations], preparer) = open_unit(rt, alloc, log, place, path)?;
+        let (opened, both, preparer) = open_unit(rt, alloc, log, place, path)?;
         units.push(NewUnit::new(alloc, opened)?)?;
-        locks.push(disk)?;
-        locks.push(registrations)?;
+        locks.push(both)?;
         preparers.push(preparer)?;
     }
     Ok(OpenArray {

@@ -171,6 +171,8 @@ fn start_unit<
     ensures opening { IfOk result (λ r. IsOpening r.0.control) }
     ensures disk { IfOk result (λ r. r.0.device.node ≡ r.1.node) }
 {
+    let of_disk = watch(alloc, log, parts.place.unit, Part::Disk, patience)?;
+    let of_file = watch(alloc, log, parts.place.unit, Part::Registrations, patience)?;
     let Parts {
         place,
         disk,
@@ -181,8 +183,6 @@ fn start_unit<
         file,
         locks,
     } = parts;
-    let of_disk = watch(alloc, log, place.unit, Part::Disk, patience)?;
-    let of_file = watch(alloc, log, place.unit, Part::Registrations, patience)?;
     let Ok(blocks) = Deadlined::start(rt, alloc, blocks, opener, disk, &of_disk) else {
         return Err(Fault::NoMemory);
     };
@@ -217,10 +217,9 @@ fn start_timed<
     let mut locks = Vec::new(alloc);
     let mut preparers = Vec::new(alloc);
     for part in parts {
-        let (unit, preparer, [disk, registrations]) = start_unit(rt, alloc, log, part, patience)?;
+        let (unit, preparer, both) = start_unit(rt, alloc, log, part, patience)?;
         units.push(NewUnit::new(alloc, unit)?)?;
-        locks.push(disk)?;
-        locks.push(registrations)?;
+        locks.push(both)?;
         preparers.push(preparer)?;
     }
     // There are no more than the words ask for.
@@ -235,7 +234,7 @@ fn start_timed<
 }
 
 /// Serves the array over these parts, as `serve` does. Each call on their files takes so long at most.
-#[tactic(auto, using(crate::proofs::NamedDisks::units_are, crate::proofs::NamedDisks::preparers_are))]
+#[tactic(auto, using(portal::specs::Disks::over_their_own, crate::proofs::Pairs::over_the_same))]
 pub fn serve_timed<
     R: Threads
         + Wait
