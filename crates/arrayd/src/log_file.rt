@@ -1,13 +1,13 @@
 //! The file of the log, where one is asked for.
 
 use command_line::Fault;
-use event_log::{Event, Page, Stamp, spell};
-use std::alloc::{AllocError, Global};
+use event_log::{Event, Page, Stamp, put_line};
+use std::alloc::Global;
 use std::env::{self, Env, VarError};
 use std::fs::{File, OpenFile};
 use std::io::Write;
 use std::rt::Files;
-use std::time::{Clock, Duration};
+use std::time::Clock;
 
 /// The variable of the environment that names the file.
 const VARIABLE: &str = "ARRAYD_LOG";
@@ -48,16 +48,6 @@ impl<R: Files<File = File> + Drop> Page for LogFile<R> {
     }
 }
 
-// The line of an event that happens now.
-fn line_of<R: Clock>(rt: &R, alloc: Global, event: &Event<'_>) -> Result<String, AllocError> {
-    let now = Stamp::of(rt.since_1970().unwrap_or(Duration::ZERO));
-    let mut line = String::new(alloc);
-    write!(line, "{now} ")?;
-    spell(&mut line, event)?;
-    line.push('\n')?;
-    Ok(line)
-}
-
 /// Writes one event to the file that the environment names, where it names one, with no thread: the program ends behind it.
 pub fn write_one<R: Clock + Env + AllocGlobal + Files<File = File> + Clone + Drop>(
     rt: &R,
@@ -70,7 +60,8 @@ pub fn write_one<R: Clock + Env + AllocGlobal + Files<File = File> + Clone + Dro
     let Some(file) = page.open() else {
         return Ok(());
     };
-    let line = line_of(rt, alloc, event)?;
+    let mut line = String::new(alloc);
+    put_line(&mut line, Stamp::now(rt), event)?;
     let mut file: &File = &file;
     let _ = file.write_all(line.as_bytes());
     Ok(())

@@ -27,4 +27,4 @@ pub use words::{
     Access, Action, Call, Cause, Operation, Part, Resource, Sense, SessionType, Stayed, Unusable,
     Why,
 };
-pub use writer::{Page, close, start};
+pub use writer::{Page, close, put_line, start};

@@ -1,7 +1,7 @@
 //! The time of a line.
 
 use std::fmt::{self, Display, Formatter};
-use std::time::Duration;
+use std::time::{Clock, Duration};
 
 /// How many seconds a day has.
 const DAY: u64 = 86400;
@@ -17,6 +17,11 @@ pub struct Stamp {
 }
 
 impl Stamp {
+    /// The moment that it is; the beginning of 1970, where the clock cannot be read.
+    pub fn now(rt: &impl Clock) -> Stamp {
+        Stamp::of(rt.since_1970().unwrap_or(Duration::ZERO))
+    }
+
     /// The moment so long after the beginning of 1970.
     pub fn of(since_1970: Duration) -> Stamp {
         let seconds = since_1970.as_secs();

@@ -4,7 +4,7 @@ use crate::event::Event;
 use crate::log::{Log, ROOM, Shared};
 use crate::spelling::spell;
 use crate::stamp::Stamp;
-use std::alloc::Global;
+use std::alloc::{AllocError, Global};
 use std::fs::File;
 use std::io::{self, Write};
 use std::sync::atomic::Ordering;
@@ -65,9 +65,16 @@ fn lines_in(text: &str) -> u64 {
     count
 }
 
+/// Puts the line of an event behind what there is, with the time at which it happened, and its end.
+pub fn put_line(lines: &mut String, when: Stamp, event: &Event<'_>) -> Result<(), AllocError> {
+    write!(lines, "{when} ")?;
+    spell(lines, event)?;
+    lines.push('\n')
+}
+
 // Takes the lines that wait, and behind them how many were dropped: how many that are.
 fn take<R: Wait + Clock>(rt: &R, shared: &Shared, lines: &mut String) -> u64 {
-    let now = Stamp::of(rt.since_1970().unwrap_or(Duration::ZERO));
+    let now = Stamp::now(rt);
     lines.clear();
     let untold = {
         let mut waiting = shared.waiting.lock(rt);
@@ -80,9 +87,7 @@ fn take<R: Wait + Clock>(rt: &R, shared: &Shared, lines: &mut String) -> u64 {
         .swap(0, Ordering::SeqCst)
         .saturating_add(untold);
     if dropped != 0 {
-        let _ = write!(lines, "{now} ");
-        let _ = spell(lines, &Event::Dropped(dropped));
-        let _ = lines.push('\n');
+        let _ = put_line(lines, now, &Event::Dropped(dropped));
     }
     dropped
 }
