@@ -1,14 +1,14 @@
 //! Header segments by their names.
 use crate::logins::{LOGGED_IN, LOGIN, LOGIN_REFUSED, NOT_IN_LOGIN};
 use crate::pdus::{
-    CHECK_CONDITION, DATA_IN, DATA_OUT, GOOD, LOGGED_OUT, LOGOUT, NOP_IN, NOP_OUT, R2T, REJECT,
-    TASK_REQUEST, TASK_RESPONSE, TEST_UNIT_READY, TEXT_REQUEST, TEXT_RESPONSE, WRITE,
+    CHECK_CONDITION, COMMAND, DATA_IN, DATA_OUT, GOOD, LOGGED_OUT, LOGOUT, NOP_IN, NOP_OUT, R2T,
+    REJECT, TASK_REQUEST, TASK_RESPONSE, TEXT_REQUEST, TEXT_RESPONSE, WRITE,
 };
 
-/// The header segment of this name.
+/// The header segment of this name. The CDB of zeros that a SCSI Command has at first is that of TEST UNIT READY.
 pub(crate) fn header_named(name: &str) -> Option<[u8; 48]> {
     match name {
-        "TEST_UNIT_READY" => Some(TEST_UNIT_READY),
+        "COMMAND" | "TEST_UNIT_READY" => Some(COMMAND),
         "WRITE" => Some(WRITE),
         "DATA_OUT" => Some(DATA_OUT),
         "GOOD" => Some(GOOD),

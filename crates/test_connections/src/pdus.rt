@@ -1,7 +1,8 @@
 //! Basic header segments from which the rows of tests start (RFC 7143, section 11).
 
-/// TEST UNIT READY to LUN 0, with the tag 1 and CmdSN 1. In byte 1, C1h has R, A1h W, and E1h both.
-pub(crate) const TEST_UNIT_READY: [u8; 48] = [
+/// A SCSI Command to LUN 0, with the attribute SIMPLE, the tag 1 and CmdSN 1, whose CDB is of zeros: that of TEST UNIT READY.
+/// In byte 1, C1h has R, A1h W, and E1h both.
+pub(crate) const COMMAND: [u8; 48] = [
     0x01, 0x81, 0x00, 0x00, 0x00, 0x00, 0x00, 0x00, // flags, no data
     0x00, 0x00, 0x00, 0x00, 0x00, 0x00, 0x00, 0x00, // LUN
     0x00, 0x00, 0x00, 0x01, 0x00, 0x00, 0x00, 0x00, // tag, expected length
@@ -10,7 +11,7 @@ pub(crate) const TEST_UNIT_READY: [u8; 48] = [
     0x00, 0x00, 0x00, 0x00, 0x00, 0x00, 0x00, 0x00,
 ];
 
-/// Its answer: GOOD, with StatSN 1, ExpCmdSN 2 and MaxCmdSN 33. In byte 1, 82h has U, and 84h O (RFC 7143, 11.4.1).
+/// The answer of TEST UNIT READY: GOOD, with StatSN 1, ExpCmdSN 2 and MaxCmdSN 33. In byte 1, 82h has U, and 84h O (RFC 7143, 11.4.1).
 pub(crate) const GOOD: [u8; 48] = [
     0x21, 0x80, 0x00, 0x00, 0x00, 0x00, 0x00, 0x00, // flags, response, status
     0x00, 0x00, 0x00, 0x00, 0x00, 0x00, 0x00, 0x00, //

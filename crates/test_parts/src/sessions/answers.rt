@@ -4,7 +4,7 @@ pub fn rows() -> &'static str {
 # READ (10) of block 5, of which 512 bytes are expected. The status BUSY (SAM-5, 5.3.1); none of them came.
 busy
 answer busy
-> TEST_UNIT_READY 1:C1 20:00000200 32:28000000000500000100
+> COMMAND 1:C1 20:00000200 32:28000000000500000100
 < GOOD 1:820008 44:00000200
 asked 0 Ok(Read { lba: 5, blocks: 1, fua: false })
 

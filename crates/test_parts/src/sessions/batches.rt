@@ -71,7 +71,7 @@ end OutputFailed",
         Batch {
             row: r"256 KiB in segments of 8192
 answer good pattern 262144
-> TEST_UNIT_READY 1:C1 20:00040000 32:280000000000000200",
+> COMMAND 1:C1 20:00040000 32:280000000000000200",
             first: 1_000_000,
             fail_at: 0,
             writes: &[263728],
@@ -80,8 +80,8 @@ answer good pattern 262144
         Batch {
             row: r"256 KiB behind the most that may wait
 answer in-turn pattern 32256 | pattern 262144
-> TEST_UNIT_READY 1:C1 20:00007E00 32:28000000000000003F
-> TEST_UNIT_READY 1:C1 20:0004000000000002 32:280000000000000200",
+> COMMAND 1:C1 20:00007E00 32:28000000000000003F
+> COMMAND 1:C1 20:0004000000000002 32:280000000000000200",
             first: 1_000_000,
             fail_at: 0,
             writes: &[296224],
@@ -90,9 +90,9 @@ answer in-turn pattern 32256 | pattern 262144
         Batch {
             row: r"32768 bytes wait behind the second of three reads
 answer good pattern 16384
-> TEST_UNIT_READY 1:C1 20:00004000 32:280000000000000020
-> TEST_UNIT_READY 1:C1 20:0000400000000002 32:280000000000000020
-> TEST_UNIT_READY 1:C1 20:0000400000000003 32:280000000000000020",
+> COMMAND 1:C1 20:00004000 32:280000000000000020
+> COMMAND 1:C1 20:0000400000000002 32:280000000000000020
+> COMMAND 1:C1 20:0000400000000003 32:280000000000000020",
             first: 1_000_000,
             fail_at: 0,
             writes: &[33056, 16528],
@@ -101,9 +101,9 @@ answer good pattern 16384
         Batch {
             row: r"the sink fails behind the second of three reads: the third is not called
 answer good pattern 16384
-> TEST_UNIT_READY 1:C1 20:00004000 32:280000000000000020
-> TEST_UNIT_READY 1:C1 20:0000400000000002 32:280000000000000020
-> TEST_UNIT_READY 1:C1 20:0000400000000003 32:280000000000000020
+> COMMAND 1:C1 20:00004000 32:280000000000000020
+> COMMAND 1:C1 20:0000400000000002 32:280000000000000020
+> COMMAND 1:C1 20:0000400000000003 32:280000000000000020
 end OutputFailed",
             first: 1_000_000,
             fail_at: 1,
@@ -114,7 +114,7 @@ end OutputFailed",
             row: r"a reply that is longer than the outbox
 MaxRecvDataSegmentLength 65536
 answer good pattern 524288
-> TEST_UNIT_READY 1:C1 20:00080000 32:280000000000000400",
+> COMMAND 1:C1 20:00080000 32:280000000000000400",
             first: 1_000_000,
             fail_at: 0,
             writes: &[262336, 262384],
@@ -124,7 +124,7 @@ answer good pattern 524288
             row: r"the sink fails in the middle of a reply: no command behind it is called
 MaxRecvDataSegmentLength 65536
 answer good pattern 524288
-> TEST_UNIT_READY 1:C1 20:00080000 32:280000000000000400
+> COMMAND 1:C1 20:00080000 32:280000000000000400
 > TEST_UNIT_READY 24:00000002
 end OutputFailed",
             first: 1_000_000,

@@ -5,7 +5,7 @@ a read in Data-In of MaxRecvDataSegmentLength, in runs of MaxBurstLength
 login 1
 answer good pattern 1536
 > LOGIN 7:74 NAMES "MaxRecvDataSegmentLength=512\0MaxBurstLength=1024\0"
-> TEST_UNIT_READY 1:C1 20:00000600 32:280000000005000003
+> COMMAND 1:C1 20:00000600 32:280000000005000003
 < LOGGED_IN 7:4A WELCOME "MaxBurstLength=1024\0"
 < DATA_IN 1:00 6:0200 pattern 512
 < DATA_IN 6:0200 36:0000000100000200 pattern 512+512
@@ -18,7 +18,7 @@ the same, declared in stage 0 on the way to full feature phase
 login 1
 answer good pattern 1536
 > LOGIN 1:83 7:77 NAMES "MaxRecvDataSegmentLength=0x200\0MaxBurstLength=0X400\0"
-> TEST_UNIT_READY 1:C1 20:00000600 32:280000000005000003
+> COMMAND 1:C1 20:00000600 32:280000000005000003
 < LOGGED_IN 1:83 7:2B "TargetPortalGroupTag=1\0MaxBurstLength=1024\0"
 < DATA_IN 1:00 6:0200 pattern 512
 < DATA_IN 6:0200 36:0000000100000200 pattern 512+512
@@ -31,7 +31,7 @@ a read in one Data-In, where no length was negotiated
 login 1
 answer good pattern 1536
 > LOGIN 7:56 HOST_A
-> TEST_UNIT_READY 1:C1 20:00000600 32:280000000005000003
+> COMMAND 1:C1 20:00000600 32:280000000005000003
 < LOGGED_IN 7:36 WELCOME
 < DATA_IN 6:0600 pattern 1536
 < GOOD 24:00000002 36:00000001
@@ -42,7 +42,7 @@ lengths out of their ranges are rejected, and those where nothing is negotiated 
 login 1
 answer good pattern 1536
 > LOGIN 7:8C NAMES "MaxRecvDataSegmentLength=511\0MaxBurstLength=16777216\0FirstBurstLength=-1\0"
-> TEST_UNIT_READY 1:C1 20:00000600 32:280000000005000003
+> COMMAND 1:C1 20:00000600 32:280000000005000003
 < LOGGED_IN 7:84 WELCOME "MaxRecvDataSegmentLength=Reject\0MaxBurstLength=Reject\0FirstBurstLength=Reject\0"
 < DATA_IN 6:0600 pattern 1536
 < GOOD 24:00000002 36:00000001
@@ -53,7 +53,7 @@ a Data-In of the target has at most 65536 bytes
 login 1
 answer good pattern 66048
 > LOGIN 7:65 NAMES "MaxRecvDataSegmentLength=16777215\0"
-> TEST_UNIT_READY 1:C1 20:00010200 32:280000000005000081
+> COMMAND 1:C1 20:00010200 32:280000000005000081
 < LOGGED_IN 7:36 WELCOME
 < DATA_IN 1:00 5:010000 pattern 65536
 < DATA_IN 6:0200 36:0000000100010000 pattern 65536+512
@@ -74,7 +74,7 @@ login 1
 answer good pattern 1536
 > LOGIN 1:81 7:7A HOST_A "MaxBurstLength=1024\0AuthMethod=None\0"
 > LOGIN 7:81 HOST_A "MaxRecvDataSegmentLength=512\0InitialR2T=No\0"
-> TEST_UNIT_READY 1:C1 20:00000600 32:280000000005000003
+> COMMAND 1:C1 20:00000600 32:280000000005000003
 < LOGGED_IN 1:81 7:3B 14:0000 "TargetPortalGroupTag=1\0MaxBurstLength=1024\0AuthMethod=None\0"
 < LOGGED_IN 7:2E 24:00000002 "MaxRecvDataSegmentLength=65536\0InitialR2T=Yes\0"
 < DATA_IN 1:00 6:0200 pattern 512

@@ -3,40 +3,40 @@
 pub fn rows() -> &'static str {
     r"
 a write of 512 that expects 512 and sends 512
-> TEST_UNIT_READY 1:A1 6:0200 20:00000200 32:2A0000000005000001 pattern 512
+> COMMAND 1:A1 6:0200 20:00000200 32:2A0000000005000001 pattern 512
 < GOOD
 asked 0 Ok(Write { lba: 5, blocks: 1, fua: false })
 given pattern 512
 
 a write of 512 that expects 1024 and sends 512
-> TEST_UNIT_READY 1:A1 6:0200 20:00000400 32:2A0000000005000001 pattern 512
+> COMMAND 1:A1 6:0200 20:00000400 32:2A0000000005000001 pattern 512
 < GOOD 1:82 44:00000200
 asked 0 Ok(Write { lba: 5, blocks: 1, fua: false })
 given pattern 512
 
 a write of 512 that expects 256 and sends 256
-> TEST_UNIT_READY 1:A1 6:0100 20:00000100 32:2A0000000005000001 pattern 256
+> COMMAND 1:A1 6:0100 20:00000100 32:2A0000000005000001 pattern 256
 < GOOD 1:84 44:00000100
 asked 0 Ok(Write { lba: 5, blocks: 1, fua: false })
 given pattern 256
 
 a read of 512 that expects 512
 answer good pattern 512
-> TEST_UNIT_READY 1:C1 20:00000200 32:280000000005000001
+> COMMAND 1:C1 20:00000200 32:280000000005000001
 < DATA_IN 6:0200 pattern 512
 < GOOD 36:00000001
 asked 0 Ok(Read { lba: 5, blocks: 1, fua: false })
 
 a read of 512 that expects 256
 answer good pattern 512
-> TEST_UNIT_READY 1:C1 20:00000100 32:280000000005000001
+> COMMAND 1:C1 20:00000100 32:280000000005000001
 < DATA_IN 6:0100 pattern 256
 < GOOD 1:84 36:00000001 44:00000100
 asked 0 Ok(Read { lba: 5, blocks: 1, fua: false })
 
 a read of 512 that expects 1024
 answer good pattern 512
-> TEST_UNIT_READY 1:C1 20:00000400 32:280000000005000001
+> COMMAND 1:C1 20:00000400 32:280000000005000001
 < DATA_IN 6:0200 pattern 512
 < GOOD 1:82 36:00000001 44:00000200
 asked 0 Ok(Read { lba: 5, blocks: 1, fua: false })
@@ -44,14 +44,14 @@ asked 0 Ok(Read { lba: 5, blocks: 1, fua: false })
 # 3 bytes are padded to 4 (RFC 7143, 11.7.7).
 a read of 512 that expects 3
 answer good pattern 512
-> TEST_UNIT_READY 1:C1 20:00000003 32:280000000005000001
+> COMMAND 1:C1 20:00000003 32:280000000005000001
 < DATA_IN 6:0003 pattern 3
 < GOOD 1:84 36:00000001 44:000001FD
 asked 0 Ok(Read { lba: 5, blocks: 1, fua: false })
 
 a read of 512 without R
 answer good pattern 512
-> TEST_UNIT_READY 1:81 20:00000200 32:280000000005000001
+> COMMAND 1:81 20:00000200 32:280000000005000001
 < GOOD 1:84 44:00000200
 asked 0 Ok(Read { lba: 5, blocks: 1, fua: false })
 "
