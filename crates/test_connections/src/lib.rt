@@ -14,4 +14,4 @@ mod texts;
 pub use calls::{Calls, FakeReader, FakeWriter, ONE_BYTE, WHOLE};
 pub use lines::{Texts, bytes_of, lines_of, pdu_of};
 pub use rows::RowError;
-pub use texts::{HOST_A, THE_TARGET, WELCOME};
+pub use texts::{HOST_A, LIBISCSI_AGREED, LIBISCSI_OFFERS, THE_TARGET, WELCOME};

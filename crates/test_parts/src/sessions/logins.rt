@@ -47,12 +47,6 @@ login 1
 < LOGGED_IN 7:84 WELCOME "X-aaaaaaaaaaaaaaaaaaaaaaaaaaaaaaaaaaaaaaaaaaaaaaaaaaaaaaaaaaaaa=NotUnderstood\0"
 asked begin iqn.2000-01.test:a 400001370000 Normal
 
-a name of 223 bytes
-login 1
-> LOGIN 6:0110 "TargetName=iqn.2000-01.test:array\0InitiatorName=" 223*61 1*00
-< LOGGED_IN 7:36 WELCOME
-asked begin aaaaaaaaaaaaaaaaaaaaaaaaaaaaaaaaaaaaaaaaaaaaaaaaaaaaaaaaaaaaaaaaaaaaaaaaaaaaaaaaaaaaaaaaaaaaaaaaaaaaaaaaaaaaaaaaaaaaaaaaaaaaaaaaaaaaaaaaaaaaaaaaaaaaaaaaaaaaaaaaaaaaaaaaaaaaaaaaaaaaaaaaaaaaaaaaaaaaaaaaaaaaaaaaaaaaaaaaaaaaaaa 400001370000 Normal
-
 64 pairs
 login 1
 > LOGIN 6:0179 NAMES "k00=\0k01=\0k02=\0k03=\0k04=\0k05=\0k06=\0k07=\0k08=\0k09=\0k10=\0k11=\0k12=\0k13=\0k14=\0"
@@ -78,4 +72,17 @@ login 1
 < LOGGED_IN 7:48 WELCOME "X-a=NotUnderstood\0"
 asked begin iqn.2000-01.test:a 400001370000 Normal
 "#
+}
+
+// In a text of its own, whose lines can be broken.
+pub fn longest_name() -> &'static str {
+    "
+a name of 223 bytes
+login 1
+> LOGIN 6:0110 \"TargetName=iqn.2000-01.test:array\\0InitiatorName=\" 223*61 1*00
+< LOGGED_IN 7:36 WELCOME
+asked begin \
+     aaaaaaaaaaaaaaaaaaaaaaaaaaaaaaaaaaaaaaaaaaaaaaaaaaaaaaaaaaaaaaaaaaaaaaaaaaaaaaaaaaaaaaaaaaaaaaaaaaaaaaaaaaaaaaaa\
+     aaaaaaaaaaaaaaaaaaaaaaaaaaaaaaaaaaaaaaaaaaaaaaaaaaaaaaaaaaaaaaaaaaaaaaaaaaaaaaaaaaaaaaaaaaaaaaaaaaaaaaaaaaaaaaa 400001370000 Normal
+"
 }

@@ -53,7 +53,10 @@ use std::alloc::Global;
 use std::process::Abort;
 use std::str::FromStr;
 use std::test::*;
-use test_connections::{HOST_A, THE_TARGET, Texts, WELCOME, bytes_of, lines_of, pdu_of};
+use test_connections::{
+    HOST_A, LIBISCSI_AGREED, LIBISCSI_OFFERS, THE_TARGET, Texts, WELCOME, bytes_of, lines_of,
+    pdu_of,
+};
 
 /// The texts that rows name: those of both sides of a login, what the target says by itself, and what it tells of itself.
 pub fn named_texts() -> Texts<'static> {
@@ -65,6 +68,8 @@ pub fn named_texts() -> Texts<'static> {
         ("HOST_A", HOST_A),
         ("WELCOME", WELCOME),
         ("THE_TARGET", THE_TARGET),
+        ("LIBISCSI_OFFERS", LIBISCSI_OFFERS),
+        ("LIBISCSI_AGREED", LIBISCSI_AGREED),
         (
             "TOLD_OF_FOUR",
             "TargetName=iqn.2000-01.test:array\\0TargetAddress=127.0.0.1:3260,1\\0\

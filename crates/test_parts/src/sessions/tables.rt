@@ -39,6 +39,7 @@ fn logins_of_one_request_and_of_several(rt: HostRuntime) {
         rt.alloc(),
         &[
             ("one request", logins::one_request()),
+            ("the longest name", logins::longest_name()),
             ("several requests", login_requests::rows()),
             ("what open iscsi sends", open_iscsi::rows()),
         ],
