@@ -16,9 +16,9 @@ use test_connections::bytes_of;
 // The name of the host that registers.
 const REGISTRANT: &[u8] = b"iqn.2000-01.test:a";
 
-/// An array that is visited by hosts, one behind the other, and what its console is told. Where power is to be lost then,
-/// its files are copied there as they are. Of the visits, which are one text with an empty line between two, each begins with a
-/// controller and its portal by which a host comes, and behind that line stands the script that it performs.
+/// An array that is visited by hosts, one behind the other, and what its console is told. Behind the visits its files are copied, as
+/// they are, to where a second array is to start over them. Of the visits, which are one text with an empty line between two, each
+/// begins with a controller and its portal by which a host comes, and behind that line stands the script that it performs.
 #[derive(Clone, Copy)]
 pub struct Visited<'a> {
     pub site: Site<'a>,
@@ -131,7 +131,7 @@ fn come_all<R: Abort + Net<Listener = TcpListener, Stream = TcpStream>>(
     Ok(())
 }
 
-// The hosts come, and what they leave is looked at. Then power is lost, where it is to be.
+// The hosts come, and what they leave is looked at. Then its files are copied, where they are to be.
 fn receive<
     R: Abort + Net<Listener = TcpListener, Stream = TcpStream> + Files<File = File> + Clone + Drop,
 >(rt: &R, alloc: Global, visited: &Visited<'_>, hosts: &mut Vec<Host>) -> Result<(), Fail> {

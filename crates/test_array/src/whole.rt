@@ -1,5 +1,6 @@
-//! The program over two files: which unit is in which file, and which portal in which group. The files are copied while it serves, and a
-//! second array starts over the copies. So nothing is lost that a write had reached: this is no loss of a disk's cache.
+//! The program over two files: which unit is in which file, and which portal in which group. While it still serves, the files are
+//! copied, and a second array starts over the copies: so it finds what was written and registered, though the first has not ended.
+//! This shows no loss of a cache, as what a disk has not yet written is in the copies too.
 use crate::ends::must;
 use crate::host::Host;
 use crate::hosts::perform;
@@ -16,7 +17,7 @@ use std::process::{self, Abort};
 use std::rt::Files;
 use std::test::*;
 
-// What hosts do before power is lost. Each login is told the group of its portal.
+// What hosts do before the files are copied. Each login is told the group of its portal.
 fn before() -> &'static str {
     r#"
 1 0
@@ -42,9 +43,9 @@ fn before() -> &'static str {
 < GOOD
 > WRITE 7:18 9:01 20:00000018 32:5F000000000000001800 0000000000000000 0000000000000011 00000000 01000000
 < GOOD
-> TEST_UNIT_READY 32:35
+> COMMAND 32:35
 < GOOD
-> TEST_UNIT_READY 9:01 32:35
+> COMMAND 9:01 32:35
 < GOOD
 
 2 0
@@ -55,19 +56,19 @@ fn before() -> &'static str {
 < CHECK_CONDITION 0012 70000600000000 0A00000000 2900 00000000
 > TEST_UNIT_READY 9:01
 < CHECK_CONDITION 0012 70000600000000 0A00000000 2900 00000000
-> TEST_UNIT_READY 1:C1 20:00000200 32:28000000000500000100
+> COMMAND 1:C1 20:00000200 32:28000000000500000100
 < DATA_IN 5:000200 pattern 512
 < GOOD 36:00000001
-> TEST_UNIT_READY 1:C1 9:01 20:00000200 32:28000000000600000100
+> COMMAND 1:C1 9:01 20:00000200 32:28000000000600000100
 < DATA_IN 5:000200 pattern 100+512
 < GOOD 36:00000001
-> TEST_UNIT_READY 1:C1 20:00000200 32:28000000000600000100
+> COMMAND 1:C1 20:00000200 32:28000000000600000100
 < DATA_IN 5:000200 512*00
 < GOOD 36:00000001
 "#
 }
 
-// Behind the restart.
+// What a host does before the array over the copies.
 fn after() -> &'static str {
     r#"
 2 3
@@ -78,16 +79,16 @@ fn after() -> &'static str {
 < CHECK_CONDITION 0012 70000600000000 0A00000000 2900 00000000
 > TEST_UNIT_READY 9:01
 < CHECK_CONDITION 0012 70000600000000 0A00000000 2900 00000000
-> TEST_UNIT_READY 1:C1 20:00000200 32:28000000000500000100
+> COMMAND 1:C1 20:00000200 32:28000000000500000100
 < DATA_IN 5:000200 pattern 512
 < GOOD 36:00000001
-> TEST_UNIT_READY 1:C1 9:01 20:00000200 32:28000000000600000100
+> COMMAND 1:C1 9:01 20:00000200 32:28000000000600000100
 < DATA_IN 5:000200 pattern 100+512
 < GOOD 36:00000001
-> TEST_UNIT_READY 1:C1 20:00000008 32:5E000000000000000800
+> COMMAND 1:C1 20:00000008 32:5E000000000000000800
 < DATA_IN 7:08 00000000 00000000
 < GOOD 36:00000001
-> TEST_UNIT_READY 1:C1 9:01 20:00000010 32:5E000000000000001000
+> COMMAND 1:C1 9:01 20:00000010 32:5E000000000000001000
 < DATA_IN 7:10 00000000 00000008 0000000000000011
 < GOOD 36:00000001
 "#
@@ -101,8 +102,8 @@ fn busy() -> &'static str {
 "#
 }
 
-// What the console of the first array tells before the hosts come, and that of the second.
-fn new() -> &'static str {
+// What the console of the first array tells: `status` before the hosts come, and `?` for the line behind them.
+fn told_at_first() -> &'static str {
     "arrayd: ready
 unit 0 owner 1 states 0 1 generation 0 keys 0 type 0 entries 0
 unit 1 owner 2 states 1 0 generation 0 keys 0 type 0 entries 0
@@ -110,6 +111,7 @@ unit 1 owner 2 states 1 0 generation 0 keys 0 type 0 entries 0
 "
 }
 
+// What the console of the array over the copies tells: unit 1 still has its key.
 fn restarted() -> &'static str {
     "arrayd: ready
 unit 0 owner 1 states 0 1 generation 0 keys 0 type 0 entries 0
@@ -118,7 +120,7 @@ unit 1 owner 2 states 1 0 generation 0 keys 1 type 0 entries 0
 "
 }
 
-// The files of the first array in a folder, and of the second, which are what lay in the first when power was lost.
+// In a folder the files of the first array, and the copies of them.
 fn paths(alloc: Global, folder: &str) -> Result<[String; 4], Fail> {
     Ok([
         format!(in alloc; "{folder}/one")?,
@@ -128,7 +130,7 @@ fn paths(alloc: Global, folder: &str) -> Result<[String; 4], Fail> {
     ])
 }
 
-// Where the array over new files is served, or the one over what lay in these.
+// Where the array over new files is served, or the one over their copies, whose search for free ports begins elsewhere.
 fn site_of<'a, R: Net<Listener = TcpListener, Stream = TcpStream>>(
     rt: &R,
     process: u32,
@@ -158,7 +160,8 @@ fn compare<R: Abort>(
     Ok(())
 }
 
-// A folder of this process without a file, in the one that the test runs in: who runs it made that for it, and takes it away again.
+// An empty folder with the number of this process in its name, within the one in which the tests run. That one is made and taken away
+// by who runs them.
 fn new_folder<R: Files<File = File> + AllocGlobal>(
     rt: &R,
     alloc: Global,
@@ -170,7 +173,7 @@ fn new_folder<R: Files<File = File> + AllocGlobal>(
     Ok(folder)
 }
 
-// Where an array is served over new files, and where one over those in which they are left.
+// Makes the files of the first array: where it is served, and where the one over their copies.
 fn sites<'a, R: Files<File = File> + Net<Listener = TcpListener, Stream = TcpStream>>(
     rt: &R,
     process: u32,
@@ -183,13 +186,13 @@ fn sites<'a, R: Files<File = File> + Net<Listener = TcpListener, Stream = TcpStr
     Ok((site, left))
 }
 
-// An array over new files, and one over what lies in these when power is lost.
+// An array over new files, which are copied behind its visits, and one over the copies.
 fn story<'a>(site: Site<'a>, left: Site<'a>) -> [Visited<'a>; 2] {
     [
         Visited {
             site,
             visits: before(),
-            said: new(),
+            said: told_at_first(),
             left: Some(left),
         },
         Visited {

@@ -1,4 +1,4 @@
-//! Controllers that go down by the console.
+//! Controllers that go down by the console. No host takes part: a script is the lines of the console, and what it answers.
 
 pub fn scripts() -> &'static str {
     r#"
@@ -13,8 +13,9 @@ console status / down 1 / status / down 2 / status / x / quit =
 "#
 }
 
-// `down 1` opens nothing of unit 1, which controller 2 owns from the start. At `down 2` unit 0 has moved when unit 1 does not open.
-pub fn unopened() -> &'static str {
+// Unit 1 cannot be opened anew. Controller 2 owns it from the start, so that `down 1` moves unit 0 alone. `down 2` moves unit 0 back;
+// unit 1 would have to follow, and stays, as its blocks do not open.
+pub fn a_unit_that_stays() -> &'static str {
     r#"
 a unit whose blocks do not open stays
 console down 1 / down 2 = down / not moved 1

@@ -69,11 +69,11 @@ fn worked_examples(rt: HostRuntime) {
 #[test]
 fn controllers_that_go_down(rt: HostRuntime) {
     run_all(&rt, rt.alloc(), down::scripts(), true, WHOLE);
-    let unopened = Script {
+    let stays = Script {
         opens: 0,
-        ..Script::of(down::unopened())
+        ..Script::of(down::a_unit_that_stays())
     };
-    run(&rt, rt.alloc(), &unopened);
+    run(&rt, rt.alloc(), &stays);
 }
 
 // In pieces, too, that are one byte shorter than a header segment, and in single bytes.

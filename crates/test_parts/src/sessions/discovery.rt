@@ -1,5 +1,5 @@
 //! Discovery sessions from their login on (RFC 7143, 4.3, 11.10 and appendix C).
-// Each row but the last two logs in to a session of discovery.
+// Each session answers what it is asked.
 pub fn served() -> &'static str {
     r#"
 SendTargets=All, NOP-Out, and Logout
@@ -55,27 +55,10 @@ login 1
 < LOGGED_IN 7:1F 24:00000002 "MaxRecvDataSegmentLength=65536\0"
 < TEXT_RESPONSE 6:01E0 24:00000003 5*THE_TARGET
 asked begin iqn.2000-01.test:a 400001370000 Discovery
-
-the target begins no session
-login 1
-begin refused
-> LOGIN 7:37 "InitiatorName=iqn.2000-01.test:a\0SessionType=Discovery\0"
-> TEXT_REQUEST 7:10 "SendTargets=All\0"
-< LOGIN_REFUSED 36:0302
-asked begin iqn.2000-01.test:a 400001370000 Discovery
-end LoginRefused 0302
-
-SendTargets=All in a normal session
-login 1
-> LOGIN 7:56 HOST_A
-> TEXT_REQUEST 7:10 "SendTargets=All\0"
-< LOGGED_IN 7:36 WELCOME
-< TEXT_RESPONSE 7:13 24:00000002 "SendTargets=Reject\0"
-asked begin iqn.2000-01.test:a 400001370000 Normal
 "#
 }
 
-// Each is rejected with its header segment, and ends the session.
+// In each session one request is rejected with its header segment, which ends the session: what comes behind it is not served.
 pub fn rejected() -> &'static str {
     r#"
 576 bytes of an answer, where the initiator takes 512
@@ -90,7 +73,7 @@ login 1
 asked begin iqn.2000-01.test:a 400001370000 Discovery
 end Rejected 04 04 00000001
 
-a SCSI Command is rejected
+a SCSI Command
 login 1
 > LOGIN 7:37 "InitiatorName=iqn.2000-01.test:a\0SessionType=Discovery\0"
 > TEST_UNIT_READY
@@ -100,7 +83,7 @@ login 1
 asked begin iqn.2000-01.test:a 400001370000 Discovery
 end Rejected 04 01 00000001
 
-a write is rejected, behind SendTargets
+a write, behind SendTargets
 login 1
 > LOGIN 7:37 "InitiatorName=iqn.2000-01.test:a\0SessionType=Discovery\0"
 > TEXT_REQUEST 7:10 "SendTargets=All\0"
@@ -111,17 +94,17 @@ login 1
 asked begin iqn.2000-01.test:a 400001370000 Discovery
 end Rejected 04 01 00000001
 
-a task management request is rejected
+a LOGICAL UNIT RESET
 login 1
 > LOGIN 7:37 "InitiatorName=iqn.2000-01.test:a\0SessionType=Discovery\0"
-> TEST_UNIT_READY 0:0285
+> TASK_REQUEST 1:85
 > TEXT_REQUEST 7:10 "SendTargets=All\0"
 < LOGGED_IN 7:1F "MaxRecvDataSegmentLength=65536\0"
-< REJECT 2:04 24:00000002 rejected TEST_UNIT_READY 0:0285
+< REJECT 2:04 24:00000002 rejected TASK_REQUEST 1:85
 asked begin iqn.2000-01.test:a 400001370000 Discovery
 end Rejected 04 02 00000001
 
-another Login Request is rejected
+another Login Request
 login 1
 > LOGIN 7:37 "InitiatorName=iqn.2000-01.test:a\0SessionType=Discovery\0"
 > LOGIN 7:37 "InitiatorName=iqn.2000-01.test:a\0SessionType=Discovery\0"

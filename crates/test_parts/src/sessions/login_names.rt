@@ -182,5 +182,14 @@ begin refused
 < LOGIN_REFUSED 36:0302
 asked begin iqn.2000-01.test:a 400001370000 Normal
 end LoginRefused 0302
+
+the target begins no discovery session
+login 1
+begin refused
+> LOGIN 7:37 "InitiatorName=iqn.2000-01.test:a\0SessionType=Discovery\0"
+> TEXT_REQUEST 7:10 "SendTargets=All\0"
+< LOGIN_REFUSED 36:0302
+asked begin iqn.2000-01.test:a 400001370000 Discovery
+end LoginRefused 0302
 "#
 }

@@ -3,5 +3,6 @@
 
 mod examples;
 mod first_questions;
+mod luns;
 mod medium;
 mod run;

@@ -23,6 +23,14 @@ SendTargets=All in a normal session
 > TEXT_REQUEST 6:0010 "SendTargets=All\0"
 < TEXT_RESPONSE 7:13 "SendTargets=Reject\0"
 
+SendTargets=All in a normal session, behind its login
+login 1
+> LOGIN 7:56 HOST_A
+> TEXT_REQUEST 7:10 "SendTargets=All\0"
+< LOGGED_IN 7:36 WELCOME
+< TEXT_RESPONSE 7:13 24:00000002 "SendTargets=Reject\0"
+asked begin iqn.2000-01.test:a 400001370000 Normal
+
 SendTargets with another name has no pairs
 > TEXT_REQUEST 6:001F "SendTargets=iqn.2000-01.test:b\0"
 < TEXT_RESPONSE 7:00
@@ -117,10 +125,10 @@ discovery
 < REJECT 2:04 rejected TEST_UNIT_READY
 end Rejected 04 01 00000001
 
-task management in a discovery session
+LOGICAL UNIT RESET in a discovery session
 discovery
-> TEST_UNIT_READY 0:0285
-< REJECT 2:04 rejected TEST_UNIT_READY 0:0285
+> TASK_REQUEST 1:85
+< REJECT 2:04 rejected TASK_REQUEST 1:85
 end Rejected 04 02 00000001
 
 65 pairs

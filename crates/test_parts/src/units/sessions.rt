@@ -57,6 +57,15 @@ the second group's session; forward 1 00;; CHECK 06 29 00
 the other port's session; send 2 00;; CHECK 06 29 00
 written 5 11
 
+a session that has ended
+it attaches; attach 1 1;; ATTACHED 0
+its power on; send 0 00;; CHECK 06 29 00
+it ends; detach 0;; DONE
+its command; send 0 00;; GONE
+its reset; reset 0;; GONE
+it ends again; detach 0;; GONE
+its nexus attaches; attach 1 1;; ATTACHED 3
+
 64 sessions of as many nexuses
 numbers 0 64
 one of 64; attach N 1;; ATTACHED N

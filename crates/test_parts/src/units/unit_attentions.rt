@@ -1,4 +1,5 @@
-//! What a session is told once: a power on, a reset, reservations that others change, access states (SAM-5, 5.14; SPC-4, 6.39).
+//! Unit attention conditions, each told to a session once (SAM-5, 5.14): a power on, a reset, a reservation that another session
+//! changed, access states that changed. REQUEST SENSE tells one as its data (SPC-4, 6.39).
 use crate::units::run::run;
 
 const ROWS: &str = r#"
@@ -12,7 +13,7 @@ a session attaches; attach 1 1;; ATTACHED 0
 an unknown operation code; send 0 04;; CHECK 06 29 00
 the same again; send 0 04;; CHECK 05 20 00
 
-before all else
+a unit attention is told before a fault of the command
 a session attaches; attach 1 1;; ATTACHED 0
 a WRITE; send 0 2A 00 00000005 00 0001; 512*5A; CHECK 06 29 00
 its nexus attaches again; attach 1 1;; ATTACHED 2
@@ -38,10 +39,10 @@ REQUEST SENSE; send 0 03 00 0000 FC;; GOOD 70 00 06 00 00 00 00 0A 00 00 00 00 2
 TEST UNIT READY; send 0 00;; GOOD
 REQUEST SENSE with nothing to tell; send 0 03 00 0000 FC;; GOOD 70 00 00 00 00 00 00 0A 10*00
 another session attaches; attach 2 1;; ATTACHED 4
-REQUEST SENSE of no byte; send 1 03 00 0000 00;; GOOD
-TEST UNIT READY of the other; send 1 00;; GOOD
+its REQUEST SENSE with the allocation length 0, which clears its power on; send 1 03 00 0000 00;; GOOD
+its TEST UNIT READY is told nothing; send 1 00;; GOOD
 
-# The third session has not yet been told of its power on.
+# When the first session resets the unit, the third has not been told of its power on. It is told of both at once: 29/00 stands for either.
 resets and the end of a session
 the first session; attach 1 1;; ATTACHED 0
 its power on; send 0 00;; CHECK 06 29 00
@@ -59,9 +60,6 @@ the second resets it again; reset 1;; DONE
 the first is told; send 0 00;; CHECK 06 29 00
 the first is told once; send 0 00;; GOOD
 the second session ends; detach 1;; DONE
-its command; send 1 00;; GONE
-its reset; reset 1;; GONE
-it ends again; detach 1;; GONE
 the first is told nothing; send 0 00;; GOOD
 its nexus attaches; attach 2 1;; ATTACHED 17
 the new session; send 3 00;; CHECK 06 29 00

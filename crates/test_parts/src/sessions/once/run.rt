@@ -1,6 +1,6 @@
 //! The runner of the tables of one session over one unit, and their test.
 use crate::ends::must;
-use crate::sessions::once::{examples, first_questions, medium};
+use crate::sessions::once::{examples, first_questions, luns, medium};
 use crate::sessions::row::Row;
 use crate::sessions::run::{Table, portal};
 use block_file::{Blocks, DeviceFailed, FusedBlocks, MemBlocks};
@@ -154,9 +154,10 @@ fn run_text(rt: &impl Abort, alloc: Global, table: &str, text: &str) {
 
 #[test]
 fn sessions_of_one_unit(rt: HostRuntime) {
-    let tables: [Table; 3] = [
+    let tables: [Table; 4] = [
         ("worked examples of a session", examples::rows()),
         ("what an initiator asks first", first_questions::rows()),
+        ("LUNs", luns::rows()),
         ("medium commands", medium::rows()),
     ];
     for (table, rows) in &tables {

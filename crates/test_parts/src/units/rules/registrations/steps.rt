@@ -11,7 +11,7 @@ D Register 0 0 33; Good;; 4; 11 22 11 33; 0 0
 A Reserve 5 11 0; Good;; 4; 11 22 11 33; 11 5
 B Preempt 6 22 11; Good; A:RegistrationsPreempted C:RegistrationsPreempted D:ReservationsReleased; 5; 22 33; 22 6
 
-all registrants hold until the last
+all registrants hold the reservation until the last of them unregisters
 A Register 0 0 11; Good;; 1; 11; 0 0
 B Register 0 0 22; Good;; 2; 11 22; 0 0
 A Reserve 7 11 0; Good;; 2; 11 22; 0 7
@@ -36,8 +36,8 @@ A Register 0 0 11; Good;; 6; 11 22; 0 0
 A Reserve 7 11 0; Good;; 6; 11 22; 0 7
 B Release 7 22 0; Good; A:ReservationsReleased; 6; 11 22; 0 0
 
-# ALL_TG_PT: REGISTER makes a registration for each port. Other actions ignore the bit.
-who is registered at both ports writes through either, until both are preempted
+# With ALL_TG_PT a REGISTER registers both nexuses of its initiator port, one through each controller. Other actions ignore the bit.
+a host that is registered through both controllers writes through either, until it is preempted
 A Register 0 0 11 ALL_TG_PT; Good;; 1; 11 11; 0 0
 A Reserve 5 11 0 ALL_TG_PT; Good;; 1; 11 11; 11 5
 A_TWO Release 5 11 0 ALL_TG_PT; Good;; 1; 11 11; 11 5
@@ -48,56 +48,41 @@ B Preempt 5 22 11 ALL_TG_PT; Good; A:RegistrationsPreempted A_TWO:RegistrationsP
 allows A r-o
 allows A_TWO r-o
 
-all registrants hold until the last port is unregistered
+all registrants hold the reservation until both nexuses of the last one are unregistered
 A Register 0 0 11 ALL_TG_PT; Good;; 1; 11 11; 0 0
 A Reserve 7 11 0 ALL_TG_PT; Good;; 1; 11 11; 0 7
 B Register 0 0 22 ALL_TG_PT; Good;; 2; 11 11 22 22; 0 7
 A_TWO Register 0 11 0 ALL_TG_PT; Good;; 3; 22 22; 0 7
 B Register 0 22 0 ALL_TG_PT; Good;; 4;; 0 0
 
-type 1
+what each type allows: to the holder, to a registrant, to others
 A Register 0 0 11; Good;; 1; 11; 0 0
 B Register 0 0 22; Good;; 2; 11 22; 0 0
 A Reserve 1 11 0; Good;; 2; 11 22; 11 1
 allows A rwo
 allows B r-o
 allows C r-o
-
-type 3
-A Register 0 0 11; Good;; 1; 11; 0 0
-B Register 0 0 22; Good;; 2; 11 22; 0 0
+A Release 1 11 0; Good;; 2; 11 22; 0 0
 A Reserve 3 11 0; Good;; 2; 11 22; 11 3
 allows A rwo
 allows B --o
 allows C --o
-
-type 5
-A Register 0 0 11; Good;; 1; 11; 0 0
-B Register 0 0 22; Good;; 2; 11 22; 0 0
+A Release 3 11 0; Good;; 2; 11 22; 0 0
 A Reserve 5 11 0; Good;; 2; 11 22; 11 5
 allows A rwo
 allows B rwo
 allows C r-o
-
-type 6
-A Register 0 0 11; Good;; 1; 11; 0 0
-B Register 0 0 22; Good;; 2; 11 22; 0 0
+A Release 5 11 0; Good; B:ReservationsReleased; 2; 11 22; 0 0
 A Reserve 6 11 0; Good;; 2; 11 22; 11 6
 allows A rwo
 allows B rwo
 allows C --o
-
-type 7
-A Register 0 0 11; Good;; 1; 11; 0 0
-B Register 0 0 22; Good;; 2; 11 22; 0 0
+A Release 6 11 0; Good; B:ReservationsReleased; 2; 11 22; 0 0
 A Reserve 7 11 0; Good;; 2; 11 22; 0 7
 allows A rwo
 allows B rwo
 allows C r-o
-
-type 8
-A Register 0 0 11; Good;; 1; 11; 0 0
-B Register 0 0 22; Good;; 2; 11 22; 0 0
+A Release 7 11 0; Good; B:ReservationsReleased; 2; 11 22; 0 0
 A Reserve 8 11 0; Good;; 2; 11 22; 0 8
 allows A rwo
 allows B rwo
