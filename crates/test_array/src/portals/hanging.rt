@@ -32,11 +32,7 @@ A < GOOD
 
 a device that hangs
 # A's write hangs in the device of unit 0; meanwhile B is served by unit 1.
-A at 1
-A > LOGIN 7:56 HOST_A
-A < LOGGED_IN 7:36 WELCOME
-A > TEST_UNIT_READY
-A < CHECK_CONDITION 0012 70000600000000 0A00000000 2900 00000000
+A alone
 B at 2
 B > LOGIN 7:56 HOST_B
 B < LOGGED_IN 7:36 15:02 WELCOME_2
@@ -119,11 +115,7 @@ all < GOOD
 
 closed desks are busy
 # Both desks are closed while A is logged in: each command is BUSY, and what is no command goes on.
-A at 1
-A > LOGIN 7:56 HOST_A
-A < LOGGED_IN 7:36 WELCOME
-A > TEST_UNIT_READY
-A < CHECK_CONDITION 0012 70000600000000 0A00000000 2900 00000000
+A alone
 A > TEST_UNIT_READY
 A < GOOD
 desks close

@@ -66,11 +66,7 @@ fn both<R: Threads + Wait + Clock + Clone + Drop + Send + Sync + 'static>(
 // Meanwhile the same session is served by unit 1, another host logs in, and the console ends.
 fn script() -> &'static str {
     r#"
-A at 1
-A > LOGIN 7:56 HOST_A
-A < LOGGED_IN 7:36 WELCOME
-A > TEST_UNIT_READY
-A < CHECK_CONDITION 0012 70000600000000 0A00000000 2900 00000000
+A alone
 A > TEST_UNIT_READY 9:01
 A < CHECK_CONDITION 0012 70000600000000 0A00000000 2900 00000000
 A > WRITE 5:000200 pattern 512

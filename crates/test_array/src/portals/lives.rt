@@ -119,11 +119,7 @@ C < CHECK_CONDITION 0012 70000600000000 0A00000000 2900 00000000
 
 the same name and ISID before a write's last data
 # WRITE (10) of block 5, whose data is asked for by R2T when B takes the place of A (RFC 7143, 6.3.5). It is not done: B reads zeros.
-A at 1
-A > LOGIN 7:56 HOST_A
-A < LOGGED_IN 7:36 WELCOME
-A > TEST_UNIT_READY
-A < CHECK_CONDITION 0012 70000600000000 0A00000000 2900 00000000
+A alone
 A > WRITE
 A < R2T
 B at 1
@@ -138,11 +134,7 @@ B < GOOD 36:00000001
 
 another ISID, and another name
 # Beside the session of A, by the same portal: all three live.
-A at 1
-A > LOGIN 7:56 HOST_A
-A < LOGGED_IN 7:36 WELCOME
-A > TEST_UNIT_READY
-A < CHECK_CONDITION 0012 70000600000000 0A00000000 2900 00000000
+A alone
 I at 1
 I > LOGIN 7:56 13:01 HOST_A
 I < LOGGED_IN 7:36 13:010002 WELCOME

@@ -4,11 +4,7 @@ pub fn scripts() -> &'static str {
     r#"
 sessions that come again
 # The same name, ISID and controller take the place of the first session; another controller does not.
-A at 1
-A > LOGIN 7:56 HOST_A
-A < LOGGED_IN 7:36 WELCOME
-A > TEST_UNIT_READY
-A < CHECK_CONDITION 0012 70000600000000 0A00000000 2900 00000000
+A alone
 A > TEST_UNIT_READY
 A < GOOD
 B at 1

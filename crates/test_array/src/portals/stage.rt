@@ -1,7 +1,7 @@
 //! The scripts of the tests, a line for what an initiator does or is answered:
 //!
 //! - `A at 1`: it connects to the portal of controller 1, and is called `A` from then on;
-//! - `A and B`: A logs in at controller 1 and B at controller 2, and unit 0 tells each that power came on;
+//! - `A alone`: A logs in at controller 1, and unit 0 tells it that power came on; `A and B`: so does B then, at controller 2;
 //! - `A > PDU`: it sends this PDU, and `A < PDU`: this PDU comes. `test_connections` says how a PDU is spelled (`pdu_of`). Behind a
 //!   login requests are numbered as they go, and of answers the numbers of the session are not compared;
 //! - `A < PDU / PDU`: one of these comes;
@@ -16,8 +16,8 @@
 //! - `all > PDU`, `all < PDU`: each of those connections sends it, and each is answered by it;
 //! - `gate hold 1`: from now on commands of unit 1 wait before it; `gate held 2`: once two of them wait; `gate open`; `disk`
 //!   in place of `gate`: the writes of its device wait; `flush` in place of it: flushes wait that are left to the gate;
-//! - `gate flushes done`: from now on flushes are left to the gate, and done; `fail`: they fail; `fail once`: the next one does; `in place`:
-//!   none is left to it;
+//! - `gate flushes done`: from now on flushes are left to the gate, and done; `fail`: they fail; `fail once`: the next one does;
+//!   `in place`: none is left to it;
 //! - `gate flushed 1`: since the last such line a flush was asked of the gate, the last one of unit 1; `gate unflushed`: none was;
 //! - `0 shows 3`: the row of unit 0 tells of three entries, whoever has its lock;
 //! - `console status / down 1 = unit 0 .. / down`: these lines of the console are answered by those; behind them the desks are closed;
@@ -48,14 +48,20 @@ pub struct Stage<'a, R, S> {
     crowd: Vec<Host>,
 }
 
-// How A and B come.
-fn a_and_b() -> &'static str {
+// How A comes.
+fn a_comes() -> &'static str {
     r#"
 A at 1
 A > LOGIN 7:56 HOST_A
 A < LOGGED_IN 7:36 WELCOME
 A > TEST_UNIT_READY
 A < CHECK_CONDITION 0012 70000600000000 0A00000000 2900 00000000
+"#
+}
+
+// How B comes behind it.
+fn b_comes() -> &'static str {
+    r#"
 B at 2
 B > LOGIN 7:56 HOST_B
 B < LOGGED_IN 7:36 15:02 WELCOME_2
@@ -103,11 +109,19 @@ impl<'a, R: Abort + Eprint, S: Scene> Stage<'a, R, S> {
         let lines = lines_of(self.alloc, text).expect(self.at.rt, "memory");
         self.at.check(!lines.is_empty(), &"a script has lines");
         for line in &lines {
-            if *line == "A and B" {
-                self.obey_all(a_and_b());
-            } else {
-                self.obey(line);
+            self.obey_shorthand(line);
+        }
+    }
+
+    // A line that may stand for several.
+    fn obey_shorthand(&mut self, line: &'a str) {
+        match line {
+            "A alone" => self.obey_all(a_comes()),
+            "A and B" => {
+                self.obey_all(a_comes());
+                self.obey_all(b_comes());
             }
+            _ => self.obey(line),
         }
     }
 
