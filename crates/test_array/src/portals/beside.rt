@@ -67,6 +67,7 @@ const SINCE: u8 = 0x22;
 /// A READ of one block that passes the gate, whether a write of another block ends then, and what the device gives for block 1.
 #[derive(Clone, Copy)]
 struct Passing {
+    name: &'static str,
     unit: usize,
     lba: u64,
     fua: bool,
@@ -76,6 +77,7 @@ struct Passing {
 
 /// One that is read beside its unit, and taken.
 const TAKEN: Passing = Passing {
+    name: "taken",
     unit: 0,
     lba: 1,
     fua: false,
@@ -83,8 +85,7 @@ const TAKEN: Passing = Passing {
     gives: BEFORE,
 };
 
-// It is read again where a write has ended since; with FUA; for another block than the one that was read; and for a unit that has no
-// preparer.
+// What is read beside its unit is taken, unless the name says why it is read again: then the block is as it is since.
 fn passings() -> [Passing; 5] {
     let read_again = Passing {
         gives: SINCE,
@@ -93,18 +94,22 @@ fn passings() -> [Passing; 5] {
     [
         TAKEN,
         Passing {
+            name: "a write has ended since",
             is_written: true,
             ..read_again
         },
         Passing {
+            name: "FUA",
             fua: true,
             ..read_again
         },
         Passing {
+            name: "another block was read",
             lba: 0,
             ..read_again
         },
         Passing {
+            name: "a unit without a preparer",
             unit: 1,
             ..read_again
         },
@@ -173,7 +178,7 @@ fn pass_all<R: Clock + Wait + Files<File = File> + Abort + Copy + Drop>(
     let gate = Prepared::<_, Nameless>::new(of);
     for passing in &passings() {
         let given = passed(alloc, &gate, &mut device, &mut other, *passing);
-        must(rt, given == Some(passing.gives), "a READ", &given);
+        must(rt, given == Some(passing.gives), passing.name, &given);
     }
 }
 

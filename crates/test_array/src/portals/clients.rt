@@ -27,7 +27,7 @@ A << LOGGED_OUT 16:327B23C8 27:03 28:643C9869643C9888
 A over
 
 iscsi-ls: units
-# `iscsi-ls -s` then asks at each portal which units the target has, and what they are.
+# `iscsi-ls -s` then asks at each portal which units the target has, and what they are. Its numbers are random too: here the same.
 A at 1
 A >> LOGIN 6:01B1 8:808B45670000 16:327B23C6 24:643C9869 31:01
   "InitiatorName=iqn.2007-10.com.github:sahlberg:libiscsi:iscsi-ls\0TargetName=iqn.2000-01.test:array\0"
