@@ -1,10 +1,11 @@
 // An iSCSI initiator for benchmarks and for tests under load: fast, and no more than they need. `rustc -O` builds it; the
 // scripts beside it do so.
 //
-// client HOST:PORT[,HOST:PORT..] TARGET UNIT read|write|fua|flush SIZE DEPTH SESSIONS SECONDS [REGION [FIRST]]
+// client HOST:PORT[,HOST:PORT..] TARGET UNIT read|write|fua|flush SIZE DEPTH SESSIONS SECONDS|COUNTx [REGION [FIRST]]
 //     commands of SIZE bytes at random places of the unit's first REGION bytes, DEPTH of them open in each of the SESSIONS,
 //     whose names are counted from FIRST on; prints how many ended a second. `fua` writes with FUA; `flush` has a SYNCHRONIZE
-//     CACHE behind each write, and nothing else open: it counts both as one
+//     CACHE behind each write, and nothing else open: it counts both as one. With COUNTx in place of a time each session sends
+//     so many commands, and waits for all answers
 // client HOST:PORT[,HOST:PORT..] TARGET UNIT[,UNIT..] load SIZE DEPTH SESSIONS SECONDS
 //     each session writes numbered blocks to places of its own and reads them back, all the time; when the time is over, or
 //     the connections break, it logs in again, for a minute, and reads all: each block has the last write of it that was
@@ -364,6 +365,8 @@ struct Plan {
     depth: usize,
     sessions: usize,
     time: Duration,
+    // of each session at most
+    count: u64,
     region: u64,
     first: usize,
 }
@@ -390,8 +393,8 @@ fn measure(plan: &Plan, number: usize, start: &Barrier, is_over: &AtomicBool) ->
     let depth = if plan.work == "flush" { 1 } else { plan.depth };
     let (mut open, mut ended, mut tag) = (0, 0, 0);
     start.wait();
-    while !is_over.load(Ordering::Relaxed) {
-        while open < depth && session.has_room() {
+    while !is_over.load(Ordering::Relaxed) && ended < plan.count {
+        while open < depth && session.has_room() && ended + (open as u64) < plan.count {
             let lba = random.below(places) * blocks as u64;
             session.command(unit, tag, lba, blocks, is_write.then_some(&data[..]));
             tag = (tag + 1) % 0x7FFF0000;
@@ -438,8 +441,10 @@ fn benchmark(plan: &Plan) -> io::Result<()> {
         .collect();
     start.wait();
     let began = Instant::now();
-    std::thread::sleep(plan.time);
-    is_over.store(true, Ordering::Relaxed);
+    if plan.count == u64::MAX {
+        std::thread::sleep(plan.time);
+        is_over.store(true, Ordering::Relaxed);
+    }
     let ended: u64 = workers.into_iter().map(|worker| worker.join().unwrap()).sum();
     println!("{:.0}", ended as f64 / began.elapsed().as_secs_f64());
     Ok(())
@@ -663,10 +668,15 @@ fn load(plan: &Plan) -> io::Result<()> {
 fn main() -> io::Result<()> {
     let words: Vec<String> = std::env::args().skip(1).collect();
     if words.len() < 8 {
-        eprintln!("client ADDRESS[,ADDRESS..] TARGET UNIT[,UNIT..] read|write|fua|flush|load SIZE DEPTH SESSIONS SECONDS [REGION [FIRST]]");
+        eprintln!(
+            "client ADDRESS[,ADDRESS..] TARGET UNIT[,UNIT..] read|write|fua|flush|load SIZE DEPTH SESSIONS SECONDS|COUNTx \
+            [REGION [FIRST]]"
+        );
         std::process::exit(2);
     }
     let number = |at: usize| words[at].parse::<u64>().expect("a number");
+    let count = words[7].strip_suffix('x').map(|count| count.parse::<u64>().expect("a count"));
+    let seconds = if count.is_some() { 0.0 } else { words[7].parse::<f64>().expect("seconds") };
     let plan = Plan {
         addresses: words[0].split(',').map(str::to_string).collect(),
         target: words[1].clone(),
@@ -675,7 +685,8 @@ fn main() -> io::Result<()> {
         size: number(4) as usize,
         depth: number(5) as usize,
         sessions: number(6) as usize,
-        time: Duration::from_millis((words[7].parse::<f64>().expect("seconds") * 1000.0) as u64),
+        time: Duration::from_millis((seconds * 1000.0) as u64),
+        count: count.unwrap_or(u64::MAX),
         region: if words.len() > 8 { number(8) } else { u64::MAX },
         first: if words.len() > 9 { number(9) as usize } else { 0 },
     };
