@@ -10,7 +10,7 @@ login_silence = 30
 pub has_limit : {S : Type 0} → S → ℕ → Type 0
 has_limit socket seconds = Unit {0}
 
--- a socket was told to let reads wait
+-- a socket was told that silence is no failure: its reads wait, and say every few seconds that nothing came
 pub has_none : {S : Type 0} → S → Type 0
 has_none socket = Unit {0}
 

@@ -6,6 +6,9 @@ use std::net::{Shutdown, TcpStream};
 use std::sync::Arc;
 use std::time::Duration;
 
+/// For so many seconds a read of a session waits. It holds less memory from then on, until its initiator sends again.
+const REST: u64 = 10;
+
 /// A connection, as far as others than its session's reader and writer touch it.
 pub trait Connection {
     /// It was told to end where its initiator is silent for so many seconds. Nothing but `limit` says so.
@@ -45,6 +48,6 @@ impl Connection for Arc<TcpStream, Global> {
 
     #[tactic(auto, using(crate::specs::Silence::no_limit_says))]
     fn end_limit(&self) {
-        let _ = self.set_read_timeout(None);
+        let _ = self.set_read_timeout(Some(Duration::from_secs(REST)));
     }
 }

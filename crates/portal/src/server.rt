@@ -154,7 +154,7 @@ fn serve_as<R: Wait + Clock, U: LogicalUnits<P, H> + Drop, G: Gate + Drop, P: Pa
     };
     let stream: &TcpStream = socket;
     let observer = Observer::new(rt, &server.log, path);
-    let mut source = KeptSource::new(alloc, Watched::new(stream), &observer);
+    let mut source = KeptSource::new(alloc, Watched::timed(stream), &observer);
     let mut sink = ObservedSink::new(Watched::new(stream), &observer);
     match serve_session::<
         R,

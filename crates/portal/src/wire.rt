@@ -2,7 +2,7 @@
 ghost use Rattle.std.specs.Prelude.{◌≡◌, ◌<◌, length};
 
 use crate::observer::Observer;
-use session::{Failed, Sink, Source};
+use session::{Failed, Sink, Source, Unread};
 use std::alloc::Global;
 use std::sync::Wait;
 use std::time::Clock;
@@ -56,8 +56,8 @@ impl<R: Wait + Clock, S: Source> Source for KeptSource<'_, R, S> {
 
     ghost failures = { λ h. S.failures h.inner };
 
-    fn read_some(&mut self, buf: &mut [u8]) -> Result<usize, Failed> {
-        let count = self.inner.read_some(buf)?;
+    fn read_some(&mut self, buf: &mut [u8], may_be_silent: bool) -> Result<usize, Unread> {
+        let count = self.inner.read_some(buf, may_be_silent)?;
         self.observer.came();
         self.keep(&buf[..count]);
         Ok(count)

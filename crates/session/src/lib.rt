@@ -27,6 +27,6 @@ pub use examples::{
 pub use session_rules::{
     BeginAnswer, End, Identity, Lengths, Opening, ResetAnswer, Start, Target, TargetAnswer,
 };
-pub use session_stream::{Failed, Sink, Source};
+pub use session_stream::{Failed, Sink, Source, Unread};
 pub use stream::serve_stream;
 pub use watched::Watched;

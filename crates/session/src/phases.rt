@@ -1,5 +1,5 @@
 //! A whole session without bytes: its login, and full feature phase behind it.
-ghost use Rattle.std.specs.Prelude.{◌<◌, ◌≤◌, length, vec_capacity, IfOk, Some};
+ghost use Rattle.std.specs.Prelude.{◌≡◌, ◌<◌, ◌≤◌, length, vec_capacity, IfOk, Some};
 ghost use Rattle.session_rules.specs.Causes.{end_by_reject};
 ghost use Rattle.session_rules.specs.Turn.{pdu as came, faulty};
 ghost use Rattle.session_rules.specs.Verdict.{reason_of};
@@ -61,6 +61,18 @@ impl Phases {
                 session: Session::new(alloc, kind, start, units, me)?,
             }),
         }
+    }
+
+    /// Whether its login is over.
+    pub fn is_open(&self) -> bool {
+        self.login.is_none()
+    }
+
+    /// Gives memory back while nothing comes.
+    pub fn rest(&mut self)
+        ensures { self.new ≡ self.old }
+    {
+        self.session.rest();
     }
 
     /// One turn: what a PDU calls for, with the target's answer, put into the outbox; the end that it calls for.

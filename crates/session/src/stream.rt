@@ -16,7 +16,7 @@ use crate::phases::Phases;
 use iscsi_pdu::LONGEST_PDU;
 use scsi_types::NoMemory;
 use session_rules::{End, Identity, LONGEST_TEXT, Opening, Target, reject_end, reject_reason};
-use session_stream::{Failed, Outbox, Sink, Source};
+use session_stream::{Failed, Outbox, Sink, Source, Unread};
 use std::alloc::Global;
 
 // Writes what waits at the session's end: this end, or that the sink failed.
@@ -32,22 +32,59 @@ fn finish<K: Sink>(sink: &mut K, outbox: &mut Outbox, end: End) -> End
     }
 }
 
-// One read: how many bytes came. No answer waits meanwhile, for its initiator may send no more before it has it.
-fn read_more<S: Source>(inbox: &mut Inbox, outbox: &Outbox, source: &mut S) -> Result<usize, Failed>
-    requires all_written { outbox.now.waiting ≡ [] }
-    requires partial { length inbox.old < LONGEST_PDU }
+// One read, for which silence is a failure: how many bytes came.
+fn read_once<S: Source>(inbox: &mut Inbox, source: &mut S) -> Result<usize, Failed>
+    requires { length inbox.old < LONGEST_PDU }
     ensures ok { IfOk result (λ n. Filled (S.left source.old) (S.left source.new) inbox.old inbox.new n) }
     ensures err { OnErr result ((inbox.new ≡ inbox.old) × Keeps (S.left source.old) (S.left source.new)) }
     ensures failures { Counted (S.failures source.old) (S.failures source.new) result }
     ensures bound { length inbox.new ≤ INBOX_CAPACITY }
 {
-    inbox.fill(source)
+    match inbox.fill(source, false) {
+        Ok(n) => Ok(n),
+        Err(Unread::Failed) => Err(Failed),
+        Err(Unread::Silence) => unreachable!(),
+    }
+}
+
+// Waits until bytes came: how many. No answer waits meanwhile, for its initiator may send no more before it has it. Behind its
+// login it may be silent: then memory is given back.
+fn read_more<S: Source>(
+    inbox: &mut Inbox,
+    outbox: &mut Outbox,
+    phases: &mut Phases,
+    source: &mut S,
+) -> Result<usize, Failed>
+    requires all_written { outbox.old.waiting ≡ [] }
+    requires partial { length inbox.old < LONGEST_PDU }
+    ensures same { (outbox.new ≡ outbox.old) × (phases.new ≡ phases.old) }
+    ensures ok { IfOk result (λ n. Filled (S.left source.old) (S.left source.new) inbox.old inbox.new n) }
+    ensures err { OnErr result ((inbox.new ≡ inbox.old) × Keeps (S.left source.old) (S.left source.new)) }
+    ensures failures { Counted (S.failures source.old) (S.failures source.new) result }
+    ensures bound { length inbox.new ≤ INBOX_CAPACITY }
+{
+    if !phases.is_open() {
+        return read_once(inbox, source);
+    }
+    for _ in 0..u64::MAX {
+        match inbox.fill(source, true) {
+            Ok(n) => return Ok(n),
+            Err(Unread::Failed) => return Err(Failed),
+            Err(Unread::Silence) => {
+                inbox.rest();
+                outbox.rest();
+                phases.rest();
+            }
+        }
+    }
+    read_once(inbox, source)
 }
 
 /// Serves a session over a stream until its end, from its login on, or in full feature phase: what is written spells a legal
 /// transcript of what is read, and the target answers what it asks. The last that it asks is that the session is over.
-/// Answers wait in the outbox and leave together, before each read, where they fill it, and at the end. All memory but that
-/// of the data of writes is taken before the first read; refused, nothing was read, written or asked.
+/// Answers wait in the outbox and leave together, before each read, where they fill it, and at the end. The memory that it
+/// cannot do without, but that of the data of writes, is taken before the first read; refused, nothing was read, written or
+/// asked. For much at once it takes more, if that is there, and gives it back where nothing comes.
 pub fn serve_stream<S: Source, K: Sink, T: Target>(
     alloc: Global,
     source: &mut S,
@@ -120,7 +157,7 @@ fn serve_turns<S: Source, K: Sink, T: Target>(
                 if outbox.has_failed() {
                     return End::OutputFailed;
                 }
-                match read_more(inbox, outbox, source) {
+                match read_more(inbox, outbox, phases, source) {
                     Ok(0) => return End::EndOfInput,
                     Ok(_) => {
                         look_ahead(target, inbox.bytes());

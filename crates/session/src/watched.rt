@@ -1,17 +1,19 @@
 ghost use Rattle.std.specs.Prelude.{◌≡◌};
 ghost use Rattle.session.specs.Watched.{WatchedValue};
 
-use session_stream::{Failed, Sink, Source};
+use session_stream::{Failed, Sink, Source, Unread};
 use std::io::{ErrorKind, Read, Write};
 use std::marker::Model;
 
 /// A reader or a writer of `std`, and how often it has failed.
 ///
 /// A signal that interrupts a call is no failure: the call is made again. Any other error is one, and so
-/// are a `write` that takes none of the bytes it is given, and 2^64 - 1 calls that did not finish it.
+/// are a `write` that takes none of the bytes it is given, and 2^64 - 1 calls that did not finish it. Where a read waits for
+/// a time alone, that nothing came until then is none, if its caller lets it be silent.
 #[derive(Drop)]
 pub struct Watched<S> {
     inner: S,
+    waits_for_a_time: bool,
     failed: u64,
 }
 
@@ -26,7 +28,22 @@ impl<S> Watched<S> {
     pub fn new(inner: S) -> Self
         ensures { result ≡ record { inner = inner; failed = 0 } }
     {
-        Watched { inner, failed: 0 }
+        Watched {
+            inner,
+            waits_for_a_time: false,
+            failed: 0,
+        }
+    }
+
+    /// The same of a reader whose reads wait for a time alone, as those of a socket that was told so.
+    pub fn timed(inner: S) -> Self
+        ensures { result ≡ record { inner = inner; failed = 0 } }
+    {
+        Watched {
+            inner,
+            waits_for_a_time: true,
+            failed: 0,
+        }
     }
 
     /// Gives the reader or writer back.
@@ -42,20 +59,23 @@ impl<R: Read> Source for Watched<R> {
 
     ghost failures = { λ s. s.failed };
 
-    fn read_some(&mut self, buf: &mut [u8]) -> Result<usize, Failed> {
+    fn read_some(&mut self, buf: &mut [u8], may_be_silent: bool) -> Result<usize, Unread> {
         for _ in 0..u64::MAX {
             match self.inner.read(buf) {
                 Ok(n) => return Ok(n),
                 Err(e) => {
+                    if may_be_silent && self.waits_for_a_time && e.kind() == ErrorKind::WouldBlock {
+                        return Err(Unread::Silence);
+                    }
                     if e.kind() != ErrorKind::Interrupted {
                         self.failed = self.failed.saturating_add(1);
-                        return Err(Failed);
+                        return Err(Unread::Failed);
                     }
                 }
             }
         }
         self.failed = self.failed.saturating_add(1);
-        Err(Failed)
+        Err(Unread::Failed)
     }
 }
 

@@ -116,6 +116,13 @@ impl Session {
         self.transfer_tag = 0;
     }
 
+    /// Gives memory back while nothing comes.
+    pub fn rest(&mut self)
+        ensures { self.new ≡ self.old }
+    {
+        self.waiting.rest();
+    }
+
     /// Answers the text of a PDU, where it is a Text Request, in memory with room for the longest answer: whether it has
     /// one that the initiator takes.
     pub fn make_text(&self, room: &mut Vec<u8>, pdu: &Pdu<'_>) -> bool

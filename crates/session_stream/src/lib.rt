@@ -12,6 +12,6 @@ mod pdus;
 mod source;
 
 pub use data_in::{NO_TRANSFER_TAG, count, segment_at};
-pub use outbox::{ENOUGH_TO_WRITE, OUTBOX_CAPACITY, Outbox, SENSE_LENGTH, SENSE_SEGMENT_LENGTH};
+pub use outbox::{ENOUGH_TO_WRITE, Outbox, SENSE_LENGTH, SENSE_SEGMENT_LENGTH};
 pub use pdus::{DataInPdu, DataIns, Pdus, ResponsePdu};
-pub use source::{Failed, Sink, Source};
+pub use source::{Failed, Sink, Source, Unread};

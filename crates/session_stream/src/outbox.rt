@@ -1,4 +1,4 @@
-ghost use Rattle.std.specs.Prelude.{◌≡◌, ◌+◌, ◌++◌, ◌<◌, ◌≤◌, [], false, length, vec_capacity, IfOk, Some};
+ghost use Rattle.std.specs.Prelude.{◌≡◌, ◌+◌, ◌++◌, ◌<◌, ◌≤◌, [], false, true, length, vec_capacity, IfOk, Some};
 ghost use Rattle.session_stream.specs.Pdus.{AreInReach, data_ins_of, sent_by};
 ghost use Rattle.session_stream.specs.Outbox.{OutboxValue, IsQueued, IsWritten};
 ghost use Rattle.session_rules.specs.Response.{sense_part};
@@ -20,9 +20,12 @@ pub const SENSE_LENGTH: u8 = 18;
 /// The data segment of a SCSI Response with sense: SenseLength, and the sense (RFC 7143, 11.4.7).
 pub const SENSE_SEGMENT_LENGTH: usize = 20;
 
-/// The bytes of the memory: room for a read of 256 KiB in Data-In of 8192 behind what may wait, so that it leaves in one
+/// The most bytes that wait: room for a read of 256 KiB in Data-In of 8192 behind what may wait, so that it leaves in one
 /// write.
-pub const OUTBOX_CAPACITY: usize = 299008;
+const OUTBOX_CAPACITY: usize = 299008;
+
+/// The bytes of the memory until more were to wait: room for a PDU of the longest.
+const LEAST_CAPACITY: usize = 65588;
 
 /// So many bytes do not wait for the next read: they leave, so that the peer works on them while the session makes its
 /// next turns.
@@ -31,12 +34,14 @@ pub const ENOUGH_TO_WRITE: usize = 32768;
 /// The most bytes that pad a data segment.
 const MOST_PADDING: usize = 3;
 
-/// The bytes of PDUs until they are written, in memory that was taken once.
+/// The bytes of PDUs until they are written, in memory for one PDU at least, which was taken at the beginning. Where there
+/// was no room in it, it takes more, if that is there.
 ///
 /// They leave together: before the session waits for its peer, behind a turn that leaves `ENOUGH_TO_WRITE`, where there
 /// is no room for more, and at its end. Once the sink failed, nothing more is written.
 #[derive(Drop)]
 pub struct Outbox {
+    alloc: Global,
     bytes: Vec<u8>,
     failed: bool,
 }
@@ -44,24 +49,46 @@ pub struct Outbox {
 impl Model for Outbox {
     ghost use Rattle.std.specs.Prelude.{◌≤◌, length, vec_capacity};
     ghost use Rattle.session_stream.specs.Outbox.{OutboxValue};
-    ghost use Rattle.session_stream.specs.declared.outbox.TheConstants.{OUTBOX_CAPACITY};
+    ghost use Rattle.session_stream.specs.declared.outbox.TheConstants.{LEAST_CAPACITY, OUTBOX_CAPACITY};
 
     ghost Value = { OutboxValue };
 
     ghost view = { λ s. record { waiting = s.bytes.items; failed = s.failed } };
 
-    ghost invariant = { λ s. (length s.bytes.items ≤ OUTBOX_CAPACITY) × (OUTBOX_CAPACITY ≤ vec_capacity s.bytes) };
+    ghost invariant = { λ s. (length s.bytes.items ≤ OUTBOX_CAPACITY) × (LEAST_CAPACITY ≤ vec_capacity s.bytes) };
 }
 
 impl Outbox {
-    /// An empty outbox, with all its memory.
+    /// An empty outbox.
     pub fn new(alloc: Global) -> Result<Outbox, AllocError>
         ensures { IfOk result (λ b. b ≡ record { waiting = []; failed = false }) }
     {
         Ok(Outbox {
-            bytes: Vec::with_capacity(alloc, OUTBOX_CAPACITY)?,
+            alloc,
+            bytes: Vec::with_capacity(alloc, LEAST_CAPACITY)?,
             failed: false,
         })
+    }
+
+    /// Gives memory back while nothing comes and nothing waits.
+    pub fn rest(&mut self)
+        requires { self.old.waiting ≡ [] }
+        ensures { self.new ≡ self.old }
+    {
+        if self.bytes.capacity() >= OUTBOX_CAPACITY {
+            self.renew(LEAST_CAPACITY);
+        }
+    }
+
+    // Takes other memory, of so many bytes, where it is to be had.
+    fn renew(&mut self, capacity: usize)
+        requires empty { self.old.waiting ≡ [] }
+        requires enough { LEAST_CAPACITY ≤ capacity }
+        ensures { self.new ≡ self.old }
+    {
+        if let Ok(bytes) = Vec::with_capacity(self.alloc, capacity) {
+            self.bytes = bytes;
+        }
     }
 
     /// Whether the sink failed.
@@ -117,25 +144,30 @@ impl Outbox {
         }
     }
 
-    // Writes what waits, where there is no room for so many bytes behind it.
-    fn make_room<K: Sink>(&mut self, sink: &mut K, n: usize)
-        requires { n ≤ OUTBOX_CAPACITY }
+    // Writes what waits, and takes all the memory.
+    fn widen<K: Sink>(&mut self, sink: &mut K)
         ensures written { IsWritten (K.held sink.old) (K.held sink.new) (K.failures sink.old) (K.failures sink.new)
             self.old self.new }
-        ensures room { length self.new.waiting + n ≤ OUTBOX_CAPACITY }
+        ensures all_written { self.new.waiting ≡ [] }
     {
-        if OUTBOX_CAPACITY - self.bytes.len() < n {
-            self.flush(sink);
+        self.flush(sink);
+        if self.bytes.capacity() < OUTBOX_CAPACITY {
+            self.renew(OUTBOX_CAPACITY);
         }
     }
 
-    // Takes a PDU in.
+    // Takes a PDU in, behind a write of what waits where there is no room for it.
     fn put<K: Sink>(&mut self, sink: &mut K, header: TargetHeader, segment: &[u8])
         requires short { length segment.now ≤ MAX_DATA_SEGMENT_LENGTH }
         ensures { IsQueued (K.held sink.old) (K.held sink.new) (K.failures sink.old) (K.failures sink.new)
             self.old self.new (spelling (Header.Target header) segment.now) }
     {
-        self.make_room(sink, BHS_LENGTH + segment.len() + MOST_PADDING);
+        let most = BHS_LENGTH + segment.len() + MOST_PADDING;
+        if has_room(&self.bytes, most) {
+            append(&mut self.bytes, header, segment);
+            return;
+        }
+        self.widen(sink);
         append(&mut self.bytes, header, segment);
     }
 
@@ -180,6 +212,14 @@ fn write_out<K: Sink>(sink: &mut K, bytes: &[u8], failed: bool) -> bool
         Ok(()) => false,
         Err(_) => true,
     }
+}
+
+// Whether there is room for so many bytes more.
+fn has_room(bytes: &Vec<u8>, n: usize) -> bool
+    requires { length bytes.now.items ≤ OUTBOX_CAPACITY }
+    ensures { result ≡ true → (length bytes.now.items + n ≤ OUTBOX_CAPACITY) × (length bytes.now.items + n ≤ vec_capacity bytes.now) }
+{
+    bytes.capacity().min(OUTBOX_CAPACITY) - bytes.len() >= n
 }
 
 // Appends a PDU, for which there is room.

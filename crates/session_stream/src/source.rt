@@ -1,10 +1,20 @@
-ghost use Rattle.std.specs.Prelude.{◌≡◌, ℕ, ◌<◌, ◌≤◌, List, Option, length, take, IfOk, OnOk, OnErr};
+ghost use Rattle.std.specs.Prelude.{◌≡◌, ℕ, ◌<◌, ◌≤◌, List, Option, length, take, true, Err, IfOk, OnOk, OnErr};
+ghost use Rattle.session_stream.specs.declared.source.Unread.TheVariants.{Silence};
 ghost use Rattle.std.specs.Io.KnownBytes.{Keeps, Appends, Consumes, IsAtEnd};
-ghost use Rattle.session_stream.specs.Source.{Counted, AppendsFront};
+ghost use Rattle.session_stream.specs.Source.{Counted, CountedRead, AppendsFront};
 
 /// A source or a sink failed, and counted it.
 #[derive(Clone, Copy)]
 pub struct Failed;
+
+/// Why a read gave no bytes.
+#[derive(Clone, Copy)]
+pub enum Unread {
+    /// The source failed, and counted it.
+    Failed,
+    /// Nothing came for a while. Later reads may give more.
+    Silence,
+}
 
 /// Where bytes come from, which tells its failures.
 ///
@@ -18,13 +28,14 @@ pub trait Source {
     ghost failures: { Self → ℕ };
 
     /// One read, which takes as much as has come: how many bytes. None are the end of the input, where the
-    /// buffer has room.
-    fn read_some(&mut self, buf: &mut [u8]) -> Result<usize, Failed>
+    /// buffer has room. A source may give up where nothing comes for a while: that is a failure, unless it `may_be_silent`.
+    fn read_some(&mut self, buf: &mut [u8], may_be_silent: bool) -> Result<usize, Unread>
         ensures bound { IfOk result (λ n. n ≤ length buf.new) }
         ensures ok { IfOk result (λ n. Consumes (left self.old) (left self.new) (take n buf.new)) }
         ensures end { IfOk result (λ n. n ≡ 0 → 0 < length buf.old → IsAtEnd (left self.new)) }
         ensures err { OnErr result (Keeps (left self.old) (left self.new)) }
-        ensures failures { Counted (failures self.old) (failures self.new) result };
+        ensures failures { CountedRead (failures self.old) (failures self.new) result }
+        ensures silence { result ≡ Err Silence → may_be_silent ≡ true };
 }
 
 /// Where bytes go to, which tells its failures.

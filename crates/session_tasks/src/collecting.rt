@@ -277,6 +277,13 @@ impl WaitingCommands {
         }
     }
 
+    /// Gives the buffers back that are kept.
+    pub fn rest(&mut self)
+        ensures { self.new ≡ self.old }
+    {
+        self.spares.clear();
+    }
+
     /// Whether one more has a place.
     pub fn has_room(&self) -> bool
         ensures { result ≡ nat_lt (length self.now) MOST_WAITING }

@@ -1,12 +1,12 @@
 use Rattle.std.proofs.Common.{◌≡◌, ◌<◌, ◌≤◌, ◌+◌, ℕ, List, Option, Result, Ok, Err, IfOk, length, take, drop, arith, length-take-le}
 use Rattle.std.proofs.Common.{length-take, length-drop}
 use Rattle.std.specs.Io.KnownBytes.{Consumes, IsAtEnd}
-use Rattle.session_stream.specs.declared.source.Failed.{Failed}
+use Rattle.session_stream.specs.declared.source.Unread.{Unread}
 use Rattle.session.{specs.Inbox.Filled, proofs.Memory.grown_behind}
 use borrow.Rule.Slice.PartMut.{put_mid, post_of}
 use Rattle.session.proofs.inbox.read_behind.Goals as goal
 
-filled_behind : (left left' : Option (List ℕ)) (xs part : List ℕ) (start filled k : ℕ) (r : Result ℕ Failed)
+filled_behind : (left left' : Option (List ℕ)) (xs part : List ℕ) (start filled k : ℕ) (r : Result ℕ Unread)
     (room : Type 0) → start ≤ filled → filled < length xs → room
     → IfOk r (λ n. n ≤ length part) → IfOk r (λ n. Consumes left left' (take n part))
     → IfOk r (λ n. n ≡ 0 → room → IsAtEnd left')

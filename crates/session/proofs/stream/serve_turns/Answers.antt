@@ -67,13 +67,15 @@ returns-in-Ok-eq0 g c units me opening k =
 pub loop-reads-preserved : goal.loop-reads-preserved
 loop-reads-preserved g c =
     let i = c.loop-reads.invariant in
+    let same = c.read_more.ensures.same in
     record {
-      running = λ units me opening k. more_came (flushed (i.running units me opening k) _ _ _ c.flush.ensures.written)
-          c.in-Ok.ensures.ok (c.loop-reads.reads + 1) (omega (arith, c.in-Ok.field-0-test));
-      fresh = i.fresh;
+      running = λ units me opening k. rw same.0 (rw same.1 (more_came
+          (flushed (i.running units me opening k) _ _ _ c.flush.ensures.written)
+          c.in-Ok.ensures.ok (c.loop-reads.reads + 1) (omega (arith, c.in-Ok.field-0-test))));
+      fresh = rw same.1 i.fresh;
       room = i.room;
-      serves = sym c.has_failed-in-Partial.ensures ∙ c.if-has_failed-2.false;
-      few = omega (arith, ap (λ (z : List ℕ). length z) c.flush.ensures.all_written);
+      serves = rw same.0 (sym c.has_failed-in-Partial.ensures ∙ c.if-has_failed-2.false);
+      few = rw same.0 (omega (arith, ap (λ (z : List ℕ). length z) c.flush.ensures.all_written));
       source_served = c.in-Ok.ensures.failures ∙ i.source_served;
     }
 
