@@ -3,8 +3,8 @@
 
 usage: bench/memory.py [PROGRAM [SESSIONS]]         a row for each state; ends with 1 where a session that was idle holds too much
 
-The memory is what the kernel says is resident, over that of the array before its first session. All sessions do the same at
-one unit, in turn.
+The memory is what the kernel says is resident and no file's, over that of the array before its first session. All sessions
+do the same at one unit, in turn. The array runs as its service starts it.
 """
 
 import os
@@ -22,12 +22,14 @@ PROGRAM = sys.argv[1] if len(sys.argv) > 1 else ARRAYD
 SESSIONS = int(sys.argv[2]) if len(sys.argv) > 2 else 60
 # What an idle session may hold, in KiB, and when it counts as idle, in seconds.
 MOST, IDLE = 160, 12
+# What the service has in the array's environment, so that the C library gives large memory back to the system.
+AS_SERVED = {"MALLOC_MMAP_THRESHOLD_": "65536"}
 
 
 def resident(pid):
-    """The resident memory of a process, in KiB."""
+    """The resident memory of a process that is no file's, in KiB."""
     with open(f"/proc/{pid}/status") as status:
-        return next(int(line.split()[1]) for line in status if line.startswith("VmRSS"))
+        return next(int(line.split()[1]) for line in status if line.startswith("RssAnon"))
 
 
 def many(session, ask, count=32):
@@ -62,7 +64,7 @@ def main():
     with tempfile.TemporaryDirectory(dir="/dev/shm") as folder:
         disk = os.path.join(folder, "u")
         made(disk, 32768)
-        with Array([disk], port=free_port(), program=PROGRAM) as array:
+        with Array([disk], port=free_port(), program=PROGRAM, more=AS_SERVED) as array:
             before = resident(array.process.pid)
             of = lambda: (resident(array.process.pid) - before) / SESSIONS
             sessions = [Session(*array.portal(1), TARGET, name=f"iqn.2000-01.test:{at}", timeout=60) for at in range(SESSIONS)]

@@ -75,9 +75,7 @@ impl Outbox {
         requires { self.old.waiting ≡ [] }
         ensures { self.new ≡ self.old }
     {
-        if self.bytes.capacity() >= OUTBOX_CAPACITY {
-            self.renew(LEAST_CAPACITY);
-        }
+        self.renew(LEAST_CAPACITY);
     }
 
     // Takes other memory, of so many bytes, where it is to be had.
