@@ -238,6 +238,11 @@ impl<'a> Row<'a> {
         }
     }
 
+    /// Whether it has no login, or one that is over when so many bytes came.
+    pub fn is_open(&self, came: usize) -> bool {
+        self.login.is_none() || self.at(came).asked > 0
+    }
+
     /// How its session begins.
     pub fn opening(&self, rt: &impl Abort) -> Opening {
         match self.login {

@@ -54,7 +54,7 @@ pub fn serve(
     row: &Row<'_>,
 ) -> Ran {
     let mut target = Fixed::new(alloc, row.answers);
-    let source = FakeReader::new(input, reads);
+    let source = source_of(input, reads);
     let sink = FakeWriter::new(alloc, writes);
     let (end, sink) = serve_by(rt, alloc, source, sink, &mut target, row);
     let is_over = target.ended_once();
@@ -73,11 +73,21 @@ pub fn serve(
     }
 }
 
+// A source of these bytes, read so. Where a call is to find nothing, its reads wait for a time alone.
+fn source_of(input: &[u8], reads: Calls) -> Watched<FakeReader<'_>> {
+    let source = FakeReader::new(input, reads);
+    if reads.kind == ErrorKind::WouldBlock {
+        Watched::timed(source)
+    } else {
+        Watched::new(source)
+    }
+}
+
 // Serves the session of this row by this target: how it ended, and the sink.
 fn serve_by(
     rt: &impl Abort,
     alloc: Global,
-    source: FakeReader<'_>,
+    mut source: Watched<FakeReader<'_>>,
     sink: FakeWriter,
     target: &mut Fixed<'_>,
     row: &Row<'_>,
@@ -89,7 +99,6 @@ fn serve_by(
         first: &[portal(3260)],
         second: second.expect(rt, "three portals at most"),
     };
-    let mut source = Watched::new(source);
     let mut sink = Watched::new(sink);
     let opening = row.opening(rt);
     let end = serve_stream(alloc, &mut source, &mut sink, target, opening, &me);

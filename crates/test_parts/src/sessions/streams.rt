@@ -1,5 +1,5 @@
-//! Sessions over streams that end and are cut anywhere, that fail at each call in turn, that take nothing, and whose calls are
-//! interrupted.
+//! Sessions over streams that end and are cut anywhere, that fail at each call in turn, that take nothing, over which nothing
+//! comes for a while, and whose calls are interrupted.
 use crate::ends::must;
 use crate::sessions::row::Row;
 use crate::sessions::run::{Wanted, calls_of, is_of_a_target, run_part, run_row};
@@ -83,6 +83,23 @@ fn any_read_fails(rt: &impl Abort, alloc: Global, row: &Row<'_>) {
     }
 }
 
+// Nothing comes for a while before any call: that ends a login, and changes nothing behind it.
+fn any_read_finds_nothing(rt: &impl Abort, alloc: Global, row: &Row<'_>) {
+    for done in 0..=row.input.len() / 4 {
+        let came = done.saturating_mul(4);
+        let reads = Calls {
+            kind: ErrorKind::WouldBlock,
+            ..calls_of(4, (done as u64).saturating_add(1))
+        };
+        let wanted = if row.is_open(came) {
+            row.whole()
+        } else {
+            answered(row, came, "InputFailed")
+        };
+        run_part(rt, alloc, row, row.input.len(), (reads, WHOLE), wanted);
+    }
+}
+
 fn any_write_fails(rt: &impl Abort, alloc: Global, row: &Row<'_>) {
     for written in 0..row.output.len() {
         let call = (written as u64).saturating_add(1);
@@ -135,6 +152,7 @@ fn each_stream(rt: &impl Abort, alloc: Global, row: &Row<'_>) {
             row.whole(),
         );
         any_read_fails(rt, alloc, row);
+        any_read_finds_nothing(rt, alloc, row);
         any_write_fails(rt, alloc, row);
         a_write_fails(rt, alloc, row, 0, calls_of(0, 0));
         calls_are_interrupted(rt, alloc, row);
