@@ -251,8 +251,9 @@ def want_of_memory_for_a_command(folder, log):
     fail = calls(folder)
     with Array([disk(folder, blocks=1024)], log=log.path, more=fail.environment):
         session = login()
-        for command, cdb, expected in (("read", [0x28, 0, 0, 0, 0, 0, 0, 0, 1, 0], 512), ("other", [0x12, 0, 0, 0, 252, 0], 252)):
-            fail.let("memory", errno.ENOMEM)
+        # a READ asks for memory once more under the lock of its unit
+        for command, cdb, expected, asks in (("read", [0x28, 0, 0, 0, 0, 0, 0, 0, 1, 0], 512, 2), ("other", [0x12, 0, 0, 0, 252, 0], 252, 1)):
+            fail.let("memory", errno.ENOMEM, times=asks)
             is_so(command, end_of(session.command(0, cdb, expected=expected)), 8)
             log.find("busy", unit="0", command=command, group="1", isid=hex(ISID))
 

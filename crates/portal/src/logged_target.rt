@@ -6,9 +6,9 @@ use crate::gate::Gate;
 use crate::observer::Observer;
 use crate::sessions::Sessions;
 use crate::target::{BeginFault, SessionTarget};
-use crate::told::{States, is_trouble, operation_of, reservation_in, sense_of, states_in};
+use crate::told::{is_trouble, operation_of, reservation_in, sense_of, states_in};
 use crate::units::{LogicalUnits, Pass};
-use event_log::{By, Cause, Event, Initiator, Log, Operation, Reservation};
+use event_log::{By, Cause, Event, Initiator, Log};
 use login::SessionType;
 use scsi_types::{Asked, Status};
 use session::{BeginAnswer, ResetAnswer, Target, TargetAnswer};
@@ -74,27 +74,6 @@ impl Visitor {
     }
 }
 
-// What of a command the log is told where it went well.
-#[derive(Clone, Copy)]
-struct Outcome {
-    operation: Operation,
-    reservation: Option<Reservation>,
-    // The access states that are to be set.
-    states: Option<States>,
-}
-
-// What of a command a log that is on is told, if it is.
-fn outcome_of(log: &Log, asked: &Asked, bytes: &[u8]) -> Option<Outcome> {
-    if !log.is_on() {
-        return None;
-    }
-    Some(Outcome {
-        operation: operation_of(asked),
-        reservation: reservation_in(asked, bytes),
-        states: states_in(asked, bytes),
-    })
-}
-
 // Who is a session's initiator, and who looks at the session.
 #[derive(Drop)]
 struct Teller<'a, 'b, R: Wait + Clock> {
@@ -118,36 +97,38 @@ impl<R: Wait + Clock> Teller<'_, '_, R> {
     }
 
     // Tells what a command did to a unit.
-    fn done(&self, unit: u8, outcome: &Outcome) {
-        if let Some(reservation) = outcome.reservation {
+    fn done(&self, unit: u8, asked: &Asked, bytes: &[u8]) {
+        if let Some(reservation) = reservation_in(asked, bytes) {
             let reserved = Event::Reserved(unit, reservation, self.who, self.observer.path.tag);
             self.observer.tell(&reserved);
         }
-        if let Some(set) = outcome.states {
+        if let Some(set) = states_in(asked, bytes) {
             let by = By::Session(self.who);
             let set = Event::GroupsSet(unit, set.owner, set.first, set.second, by);
             self.observer.tell(&set);
         }
     }
 
-    // Tells of the answer to a command of a unit what of it is to be told.
-    fn served(&self, unit: Option<u8>, outcome: Option<Outcome>, answer: &TargetAnswer) {
-        if let (Some(unit), Some(outcome)) = (unit, outcome) {
-            self.answered(unit, &outcome, answer);
+    // Tells of the answer to a command of a unit what of it is to be told, where the log is on.
+    fn served(&self, unit: Option<u8>, asked: &Asked, bytes: &[u8], answer: &TargetAnswer) {
+        if let Some(unit) = unit
+            && self.observer.log.is_on()
+        {
+            self.answered(unit, asked, bytes, answer);
         }
     }
 
     // Tells of an answer what of it is to be told.
-    fn answered(&self, unit: u8, outcome: &Outcome, answer: &TargetAnswer) {
+    fn answered(&self, unit: u8, asked: &Asked, bytes: &[u8], answer: &TargetAnswer) {
         let tag = self.observer.path.tag;
         match answer {
             TargetAnswer::Replied(reply) => {
                 if reply.status() == Status::Good {
-                    self.done(unit, outcome);
+                    self.done(unit, asked, bytes);
                 } else if is_trouble(reply) {
                     let failed = Event::CommandFailed(
                         unit,
-                        outcome.operation,
+                        operation_of(asked),
                         sense_of(reply),
                         self.who,
                         tag,
@@ -157,7 +138,7 @@ impl<R: Wait + Clock> Teller<'_, '_, R> {
             }
             TargetAnswer::Busy => {
                 self.observer
-                    .tell(&Event::Busy(unit, outcome.operation, self.who, tag));
+                    .tell(&Event::Busy(unit, operation_of(asked), self.who, tag));
             }
             TargetAnswer::Outside(_) | TargetAnswer::Gone => {}
         }
@@ -315,11 +296,10 @@ impl<
     }
 
     fn serve(&mut self, unit: Option<u8>, asked: Asked, bytes: &[u8]) -> TargetAnswer {
-        let outcome = outcome_of(self.observer.log, &asked, bytes);
         self.observer.begin(unit);
         let answer = self.target.serve(unit, asked, bytes);
         self.observer.count(unit, &asked, &answer);
-        self.teller().served(unit, outcome, &answer);
+        self.teller().served(unit, &asked, bytes, &answer);
         answer
     }
 

@@ -78,13 +78,14 @@ impl Outbox {
         self.renew(LEAST_CAPACITY);
     }
 
-    // Takes other memory, of so many bytes, where it is to be had.
+    // Moves what waits into other memory, of so many bytes, where it is to be had.
     fn renew(&mut self, capacity: usize)
-        requires empty { self.old.waiting ≡ [] }
-        requires enough { LEAST_CAPACITY ≤ capacity }
+        requires { LEAST_CAPACITY ≤ capacity }
         ensures { self.new ≡ self.old }
     {
-        if let Ok(bytes) = Vec::with_capacity(self.alloc, capacity) {
+        if let Ok(mut bytes) = Vec::with_capacity(self.alloc, capacity)
+            && let Ok(()) = bytes.extend_from_slice(&self.bytes)
+        {
             self.bytes = bytes;
         }
     }
@@ -142,14 +143,11 @@ impl Outbox {
         }
     }
 
-    // Writes what waits, and takes all the memory.
-    fn widen<K: Sink>(&mut self, sink: &mut K)
-        ensures written { IsWritten (K.held sink.old) (K.held sink.new) (K.failures sink.old) (K.failures sink.new)
-            self.old self.new }
-        ensures all_written { self.new.waiting ≡ [] }
+    // Takes all the memory, if it is there, where there is no room for so many bytes.
+    fn widen_for(&mut self, n: usize)
+        ensures { self.new ≡ self.old }
     {
-        self.flush(sink);
-        if self.bytes.capacity() < OUTBOX_CAPACITY {
+        if !has_room(&self.bytes, n) && self.bytes.capacity() < OUTBOX_CAPACITY {
             self.renew(OUTBOX_CAPACITY);
         }
     }
@@ -161,11 +159,12 @@ impl Outbox {
             self.old self.new (spelling (Header.Target header) segment.now) }
     {
         let most = BHS_LENGTH + segment.len() + MOST_PADDING;
+        self.widen_for(most);
         if has_room(&self.bytes, most) {
             append(&mut self.bytes, header, segment);
             return;
         }
-        self.widen(sink);
+        self.flush(sink);
         append(&mut self.bytes, header, segment);
     }
 
