@@ -98,14 +98,16 @@ impl<P: Preparer, N: Disks> Gate for Prepared<P, N> {
         let Some(preparer) = self.of.get(unit) else {
             return;
         };
-        if let Ok(Command::Write { lba, blocks, .. }) = asked {
-            preparer.touch(serial, *lba, *blocks);
+        match asked {
+            // What is wanted of a command is asked once, and of these by `read`.
+            Ok(Command::Read { fua: false, .. }) => return,
+            Ok(Command::Write { lba, blocks, .. }) => preparer.touch(serial, *lba, *blocks),
+            _ => {}
         }
         if !preparer.wants(serial) {
             return;
         }
         match asked {
-            Ok(Command::Read { fua: false, .. }) => {}
             Ok(Command::Read { lba, blocks, .. }) => preparer.fetch(*lba, *blocks),
             Ok(Command::Write { lba, blocks, .. }) => preparer.fetch_edges(*lba, *blocks),
             Ok(Command::CompareAndWrite { lba, blocks, .. }) => preparer.fetch(*lba, *blocks),

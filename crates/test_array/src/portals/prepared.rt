@@ -3,6 +3,7 @@ ghost use Rattle.std.specs.Prelude.{[], true};
 ghost use Rattle.portal.specs.Disks.{no_file};
 
 use crate::ends::must;
+use block_file::Room;
 use disk_preparer::{BlockMemory, Preparer};
 use portal::{Disks, Gate, Pass, Prepared};
 use scsi_types::{Asked, Command};
@@ -11,9 +12,10 @@ use std::sync::Arc;
 use std::sync::atomic::{AtomicU64, Ordering};
 use std::test::*;
 
-/// How often a disk was flushed, and how often blocks of it were fetched.
+/// How often it was asked what it wants, a disk was flushed, and blocks of it were fetched.
 #[derive(Drop)]
 struct Counts {
+    wanted: AtomicU64,
     flushed: AtomicU64,
     fetched: AtomicU64,
 }
@@ -42,6 +44,7 @@ impl Preparer for Counted {
     fn advise_edges(&self, _first: u64, _blocks: u16) {}
 
     fn wants(&self, serial: u64) -> bool {
+        self.counts.wanted.fetch_add(1, Ordering::Relaxed);
         serial == 7
     }
 
@@ -99,6 +102,7 @@ fn disks(alloc: Global) -> Result<(Vec<Counted>, Vec<Arc<Counts, Global>>), Fail
     let mut seen = Vec::new(alloc);
     for (flushes, is_done) in &DISKS {
         let counts = Counts {
+            wanted: AtomicU64::new(0),
             flushed: AtomicU64::new(0),
             fetched: AtomicU64::new(0),
         };
@@ -145,5 +149,24 @@ fn each_unit_has_its_own_disk_made_ready_and_flushed(rt: HostRuntime) -> Result<
         let has_fetched = disk.fetched.load(Ordering::Relaxed);
         must(&rt, has_fetched == *fetched, "fetched", &has_fetched);
     }
+    Ok(())
+}
+
+#[test]
+fn what_is_wanted_of_a_read_is_asked_once(rt: HostRuntime) -> Result<(), Fail> {
+    let (of, seen) = disks(rt.alloc())?;
+    let gate = Prepared::<Counted, Nameless>::new(of);
+    let read: Asked = Ok(Command::Read {
+        lba: 0,
+        blocks: 1,
+        fua: false,
+    });
+    gate.fetch(0, 7, &read);
+    let _room = gate.read(0, 7, &read, Room::new(rt.alloc()));
+    let disk = seen.first().expect(&rt, "a disk");
+    let wanted = disk.wanted.load(Ordering::Relaxed);
+    must(&rt, wanted == 1, "asked", &wanted);
+    let fetched = disk.fetched.load(Ordering::Relaxed);
+    must(&rt, fetched == 1, "fetched", &fetched);
     Ok(())
 }
