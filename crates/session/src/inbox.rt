@@ -12,8 +12,12 @@ use std::marker::Model;
 /// The most bytes of the memory: room for three PDUs of the longest and most of a fourth, so that reads take much at once.
 pub const INBOX_CAPACITY: usize = 262144;
 
-/// Bytes that came and are not yet taken, in memory for one PDU at least, which was taken at the beginning. Where a read
-/// filled it, more is taken, if it is there.
+/// Where so many bytes lie in the memory, there is to be more of it: a host that writes much sends the next ones soon, and
+/// without room for them the waiting bytes would move for each read.
+const MUCH_AT_ONCE: usize = 32768;
+
+/// Bytes that came and are not yet taken, in memory for one PDU at least, which was taken at the beginning. Where much comes
+/// at once, more is taken, if it is there.
 #[derive(Drop)]
 pub struct Inbox {
     alloc: Global,
@@ -100,7 +104,7 @@ impl Inbox {
         ensures silence { result ≡ Err Silence → may_be_silent ≡ true }
         ensures bound { length self.new ≤ INBOX_CAPACITY }
     {
-        if self.filled == self.bytes.len() && self.filled < INBOX_CAPACITY {
+        if self.filled >= MUCH_AT_ONCE && self.bytes.len() < INBOX_CAPACITY {
             self.renew(INBOX_CAPACITY);
         }
         let waiting = self.filled - self.start;
