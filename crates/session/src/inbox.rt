@@ -130,6 +130,13 @@ fn make_room(bytes: &mut [u8], start: usize, filled: usize) -> usize
     if bytes.len() - filled >= LONGEST_PDU {
         return start;
     }
+    let waiting = filled - start;
+    if waiting <= start {
+        let (front, back) = bytes.split_at_mut(start);
+        front[..waiting].copy_from_slice(&back[..waiting]);
+        return 0;
+    }
+    // where they overlap with where they go, byte by byte, which takes longer
     bytes.copy_within(start..filled, 0);
     0
 }
