@@ -1,19 +1,8 @@
 -- The BHS that is written of an initiator's header says that header.
-use Rattle.std.proofs.Common.{◌≡◌, ℕ, List, refl, sym, arith}
+use Rattle.std.proofs.Common.{ℕ, List, refl, sym, arith}
 use Rattle.iscsi_pdu.specs.Headers.{InitiatorHeader, NopOut, ScsiCommand, TaskManagementRequest, LoginRequest}
-use Rattle.iscsi_pdu.specs.Headers.{TextRequest, DataOut, LogoutRequest, NopOutHeader, ScsiCommandHeader}
-use Rattle.iscsi_pdu.specs.Headers.{TaskManagementRequestHeader, LoginRequestHeader, TextRequestHeader, DataOutHeader}
-use Rattle.iscsi_pdu.specs.Headers.{LogoutRequestHeader}
-use Rattle.iscsi_pdu.specs.Fields.{
-  HasInitiatorFields,
-  nop_out_at,
-  scsi_command_at,
-  task_management_request_at,
-  login_request_at,
-  text_request_at,
-  data_out_at,
-  logout_request_at,
-}
+use Rattle.iscsi_pdu.specs.Headers.{TextRequest, DataOut, LogoutRequest}
+use Rattle.iscsi_pdu.specs.Fields.{HasInitiatorFields}
 use Rattle.iscsi_pdu.specs.Spelling.{initiator_bhs}
 use Rattle.iscsi_pdu.specs.Range.{IsInitiatorInRange}
 use Rattle.iscsi_pdu.proofs.Cells.{cells-whole}
@@ -38,120 +27,98 @@ use Rattle.iscsi_pdu.proofs.Back.{
   last-back,
 }
 
-nop_out-says : (p : NopOutHeader) (n : ℕ) → IsInitiatorInRange (NopOut p)
-    → nop_out_at (initiator_bhs (NopOut p) n) ≡ p
-unfolding initiator_bhs
-nop_out-says p n (l, t, x, c) =
-    let b : List ℕ = initiator_bhs (NopOut p) n in
-    λ i. record {
-      immediate = lone_immediate-back p.immediate i;
-      lun = cells-whole 8 p.lun l i;
-      task_tag = word-back b 16 p.task_tag refl t i;
-      transfer_tag = word-back b 20 p.transfer_tag refl x i;
-      numbers = command_numbers-back b p.numbers refl refl c i;
-    }
-
-scsi_command-says : (p : ScsiCommandHeader) (n : ℕ) → IsInitiatorInRange (ScsiCommand p)
-    → scsi_command_at (initiator_bhs (ScsiCommand p) n) ≡ p
-unfolding initiator_bhs
-scsi_command-says p n (f, a, l, t, e, c, d) =
-    let b : List ℕ = initiator_bhs (ScsiCommand p) n in
-    λ i. record {
-      immediate = immediate-back p.immediate 1 (omega arith) i;
-      read = read-back p.read p.write p.attribute i;
-      write = write-back p.read p.write p.attribute i;
-      attribute = attribute-back p.read p.write p.attribute a i;
-      lun = cells-whole 8 p.lun l i;
-      task_tag = word-back b 16 p.task_tag refl t i;
-      expected_length = word-back b 20 p.expected_length refl e i;
-      numbers = command_numbers-back b p.numbers refl refl c i;
-      cdb = cells-whole 16 p.cdb d i;
-    }
-
-task_management_request-says : (p : TaskManagementRequestHeader) (n : ℕ) → IsInitiatorInRange (TaskManagementRequest p)
-    → task_management_request_at (initiator_bhs (TaskManagementRequest p) n) ≡ p
-unfolding initiator_bhs
-task_management_request-says p n (f, l, t, x, c, r) =
-    let b : List ℕ = initiator_bhs (TaskManagementRequest p) n in
-    λ i. record {
-      immediate = immediate-back p.immediate 2 (omega arith) i;
-      function = seven-back p.function f i;
-      lun = cells-whole 8 p.lun l i;
-      task_tag = word-back b 16 p.task_tag refl t i;
-      referenced_tag = word-back b 20 p.referenced_tag refl x i;
-      numbers = command_numbers-back b p.numbers refl refl c i;
-      ref_cmd_sn = word-back b 32 p.ref_cmd_sn refl r i;
-    }
-
-login_request-says : (p : LoginRequestHeader) (n : ℕ) → IsInitiatorInRange (LoginRequest p)
-    → login_request_at (initiator_bhs (LoginRequest p) n) ≡ p
-unfolding initiator_bhs
-login_request-says p n (u, v, l, s, t, x, c) =
-    let b : List ℕ = initiator_bhs (LoginRequest p) n in
-    λ i. record {
-      transit = transit-back p.transit p.continues p.current_stage p.next_stage i;
-      continues = login_continues-back p.transit p.continues p.current_stage p.next_stage i;
-      current_stage = current-back p.transit p.continues p.current_stage p.next_stage u i;
-      next_stage = next-back p.transit p.continues p.current_stage p.next_stage v i;
-      version_max = p.version_max;
-      version_min = p.version_min;
-      isid = cells-whole 6 p.isid l i;
-      tsih = half-back b 14 p.tsih refl s i;
-      task_tag = word-back b 16 p.task_tag refl t i;
-      cid = half-back b 20 p.cid refl x i;
-      numbers = command_numbers-back b p.numbers refl refl c i;
-    }
-
-text_request-says : (p : TextRequestHeader) (n : ℕ) → IsInitiatorInRange (TextRequest p)
-    → text_request_at (initiator_bhs (TextRequest p) n) ≡ p
-unfolding initiator_bhs
-text_request-says p n (l, t, x, c) =
-    let b : List ℕ = initiator_bhs (TextRequest p) n in
-    λ i. record {
-      immediate = immediate-back p.immediate 4 (omega arith) i;
-      last = text_last-back p.last p.continues i;
-      continues = text_continues-back p.last p.continues i;
-      lun = cells-whole 8 p.lun l i;
-      task_tag = word-back b 16 p.task_tag refl t i;
-      transfer_tag = word-back b 20 p.transfer_tag refl x i;
-      numbers = command_numbers-back b p.numbers refl refl c i;
-    }
-
-data_out-says : (p : DataOutHeader) (n : ℕ) → IsInitiatorInRange (DataOut p)
-    → data_out_at (initiator_bhs (DataOut p) n) ≡ p
-unfolding initiator_bhs
-data_out-says p n (l, t, x, e, d, o) =
-    let b : List ℕ = initiator_bhs (DataOut p) n in
-    λ i. record {
-      last = last-back p.last i;
-      lun = cells-whole 8 p.lun l i;
-      task_tag = word-back b 16 p.task_tag refl t i;
-      transfer_tag = word-back b 20 p.transfer_tag refl x i;
-      exp_stat_sn = word-back b 28 p.exp_stat_sn refl e i;
-      data_sn = word-back b 36 p.data_sn refl d i;
-      offset = word-back b 40 p.offset refl o i;
-    }
-
-logout_request-says : (p : LogoutRequestHeader) (n : ℕ) → IsInitiatorInRange (LogoutRequest p)
-    → logout_request_at (initiator_bhs (LogoutRequest p) n) ≡ p
-unfolding initiator_bhs
-logout_request-says p n (f, t, x, c) =
-    let b : List ℕ = initiator_bhs (LogoutRequest p) n in
-    λ i. record {
-      immediate = immediate-back p.immediate 6 (omega arith) i;
-      reason = seven-back p.reason f i;
-      task_tag = word-back b 16 p.task_tag refl t i;
-      cid = half-back b 20 p.cid refl x i;
-      numbers = command_numbers-back b p.numbers refl refl c i;
-    }
-
 pub initiator-says : (h : InitiatorHeader) (n : ℕ) → IsInitiatorInRange h → HasInitiatorFields (initiator_bhs h n) h
 unfolding initiator_bhs
-initiator-says (NopOut p) n r = (lone_opcode-back p.immediate, sym (nop_out-says p n r))
-initiator-says (ScsiCommand p) n r = (opcode-back p.immediate 0x01 (omega arith), sym (scsi_command-says p n r))
-initiator-says (TaskManagementRequest p) n r =
-    (opcode-back p.immediate 0x02 (omega arith), sym (task_management_request-says p n r))
-initiator-says (LoginRequest p) n r = (refl, sym (login_request-says p n r))
-initiator-says (TextRequest p) n r = (opcode-back p.immediate 0x04 (omega arith), sym (text_request-says p n r))
-initiator-says (DataOut p) n r = (refl, sym (data_out-says p n r))
-initiator-says (LogoutRequest p) n r = (opcode-back p.immediate 0x06 (omega arith), sym (logout_request-says p n r))
+initiator-says (NopOut p) n (l, t, x, c) =
+    let b : List ℕ = initiator_bhs (NopOut p) n in (
+      lone_opcode-back p.immediate,
+      sym (λ i. record {
+        immediate = lone_immediate-back p.immediate i;
+        lun = cells-whole 8 p.lun l i;
+        task_tag = word-back b 16 p.task_tag refl t i;
+        transfer_tag = word-back b 20 p.transfer_tag refl x i;
+        numbers = command_numbers-back b p.numbers refl refl c i;
+      }),
+    )
+initiator-says (ScsiCommand p) n (f, a, l, t, e, c, d) =
+    let b : List ℕ = initiator_bhs (ScsiCommand p) n in (
+      opcode-back p.immediate 0x01 (omega arith),
+      sym (λ i. record {
+        immediate = immediate-back p.immediate 1 (omega arith) i;
+        read = read-back p.read p.write p.attribute i;
+        write = write-back p.read p.write p.attribute i;
+        attribute = attribute-back p.read p.write p.attribute a i;
+        lun = cells-whole 8 p.lun l i;
+        task_tag = word-back b 16 p.task_tag refl t i;
+        expected_length = word-back b 20 p.expected_length refl e i;
+        numbers = command_numbers-back b p.numbers refl refl c i;
+        cdb = cells-whole 16 p.cdb d i;
+      }),
+    )
+initiator-says (TaskManagementRequest p) n (f, l, t, x, c, r) =
+    let b : List ℕ = initiator_bhs (TaskManagementRequest p) n in (
+      opcode-back p.immediate 0x02 (omega arith),
+      sym (λ i. record {
+        immediate = immediate-back p.immediate 2 (omega arith) i;
+        function = seven-back p.function f i;
+        lun = cells-whole 8 p.lun l i;
+        task_tag = word-back b 16 p.task_tag refl t i;
+        referenced_tag = word-back b 20 p.referenced_tag refl x i;
+        numbers = command_numbers-back b p.numbers refl refl c i;
+        ref_cmd_sn = word-back b 32 p.ref_cmd_sn refl r i;
+      }),
+    )
+initiator-says (LoginRequest p) n (u, v, l, s, t, x, c) =
+    let b : List ℕ = initiator_bhs (LoginRequest p) n in (
+      refl,
+      sym (λ i. record {
+        transit = transit-back p.transit p.continues p.current_stage p.next_stage i;
+        continues = login_continues-back p.transit p.continues p.current_stage p.next_stage i;
+        current_stage = current-back p.transit p.continues p.current_stage p.next_stage u i;
+        next_stage = next-back p.transit p.continues p.current_stage p.next_stage v i;
+        version_max = p.version_max;
+        version_min = p.version_min;
+        isid = cells-whole 6 p.isid l i;
+        tsih = half-back b 14 p.tsih refl s i;
+        task_tag = word-back b 16 p.task_tag refl t i;
+        cid = half-back b 20 p.cid refl x i;
+        numbers = command_numbers-back b p.numbers refl refl c i;
+      }),
+    )
+initiator-says (TextRequest p) n (l, t, x, c) =
+    let b : List ℕ = initiator_bhs (TextRequest p) n in (
+      opcode-back p.immediate 0x04 (omega arith),
+      sym (λ i. record {
+        immediate = immediate-back p.immediate 4 (omega arith) i;
+        last = text_last-back p.last p.continues i;
+        continues = text_continues-back p.last p.continues i;
+        lun = cells-whole 8 p.lun l i;
+        task_tag = word-back b 16 p.task_tag refl t i;
+        transfer_tag = word-back b 20 p.transfer_tag refl x i;
+        numbers = command_numbers-back b p.numbers refl refl c i;
+      }),
+    )
+initiator-says (DataOut p) n (l, t, x, e, d, o) =
+    let b : List ℕ = initiator_bhs (DataOut p) n in (
+      refl,
+      sym (λ i. record {
+        last = last-back p.last i;
+        lun = cells-whole 8 p.lun l i;
+        task_tag = word-back b 16 p.task_tag refl t i;
+        transfer_tag = word-back b 20 p.transfer_tag refl x i;
+        exp_stat_sn = word-back b 28 p.exp_stat_sn refl e i;
+        data_sn = word-back b 36 p.data_sn refl d i;
+        offset = word-back b 40 p.offset refl o i;
+      }),
+    )
+initiator-says (LogoutRequest p) n (f, t, x, c) =
+    let b : List ℕ = initiator_bhs (LogoutRequest p) n in (
+      opcode-back p.immediate 0x06 (omega arith),
+      sym (λ i. record {
+        immediate = immediate-back p.immediate 6 (omega arith) i;
+        reason = seven-back p.reason f i;
+        task_tag = word-back b 16 p.task_tag refl t i;
+        cid = half-back b 20 p.cid refl x i;
+        numbers = command_numbers-back b p.numbers refl refl c i;
+      }),
+    )
