@@ -133,15 +133,18 @@ refused_with s = Refused s.asc s.ascq
 abbrev pub asked_for : Nexus → PrOut → Option Reservation
 asked_for n q = option_map (made_by n) (type_of q.kind)
 
--- the other registered nexuses hear of the end of a reservation of types 5 to 8
-abbrev pub of_end : Option Reservation → Notice
-of_end None = Nothing
-of_end (Some held) = if is_of_registrants held.kind then ToAll ReservationsReleased else Nothing
+-- of the end of a reservation others hear where it is of types 5 to 8
+abbrev pub told_at_end : Notice → Option Reservation → Notice
+told_at_end notice None = Nothing
+told_at_end notice (Some held) = if is_of_registrants held.kind then notice else Nothing
 
--- the same where the sender's port goes whole: each registrant of another port, which is who is registered afterwards
+-- the other registered nexuses hear of it
+abbrev pub of_end : Option Reservation → Notice
+of_end held = told_at_end (ToAll ReservationsReleased) held
+
+-- where the sender's port goes whole, each registrant of another port, which is who is registered afterwards
 abbrev pub of_end_elsewhere : Option Reservation → Notice
-of_end_elsewhere None = Nothing
-of_end_elsewhere (Some held) = if is_of_registrants held.kind then ToOtherPorts ReservationsReleased else Nothing
+of_end_elsewhere held = told_at_end (ToOtherPorts ReservationsReleased) held
 
 -- they hear of it where it ended
 abbrev pub if_ended : RegistryValue → Notice → Notice

@@ -1,7 +1,6 @@
 //! PERSISTENT RESERVE OUT.
-ghost use Rattle.std.specs.Prelude.{◌≡◌, ◌≤◌, IsFalse, length, vec_capacity};
-ghost use Rattle.registrants.specs.Registry.{IsAscending, most_registrants};
-ghost use Rattle.reservations.specs.Seen.{Does};
+ghost use Rattle.std.specs.Prelude.{◌≡◌, IsFalse, vec_capacity};
+ghost use Rattle.reservations.specs.Seen.{Does, IsReady};
 ghost use Rattle.reservations.specs.Table.{effect_of, effect_of_action, is_bad_reserve};
 
 use crate::request::{is_bad_reserve, shows_key, type_asked};
@@ -12,9 +11,7 @@ use scsi_types::{PrOutAction, Sense};
 impl Table {
     /// Does what the nexus asks.
     pub fn out(&mut self, nexus: &Nexus, request: PrOut) -> PrEnd
-        requires ascending { IsAscending self.old.registrants.items }
-        requires few { length self.old.registrants.items ≤ most_registrants }
-        requires room { 64 ≤ vec_capacity self.old.registrants }
+        requires ready { IsReady self.old }
         ensures does { Does effect_of self.old self.new nexus.now request result }
         ensures room { vec_capacity self.new.registrants ≡ vec_capacity self.old.registrants }
     {
@@ -32,9 +29,7 @@ impl Table {
 
     // Does what the action says, once the fields and the key have been looked at.
     fn act(&mut self, nexus: &Nexus, request: PrOut) -> PrEnd
-        requires ascending { IsAscending self.old.registrants.items }
-        requires few { length self.old.registrants.items ≤ most_registrants }
-        requires room { 64 ≤ vec_capacity self.old.registrants }
+        requires ready { IsReady self.old }
         requires reserve { IsFalse (is_bad_reserve request.action request) }
         ensures does { Does (effect_of_action request.action) self.old self.new nexus.now request result }
         ensures room { vec_capacity self.new.registrants ≡ vec_capacity self.old.registrants }

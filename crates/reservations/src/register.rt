@@ -1,23 +1,21 @@
 //! REGISTER, and REGISTER AND IGNORE EXISTING KEY (SPC-4, 5.13.7, 5.13.11.2 and, with ALL_TG_PT, 6.16.3).
-ghost use Rattle.std.specs.Prelude.{◌≡◌, ◌<◌, ◌≤◌, ◌+◌, true, false, not, if◌then◌else◌, length, nat_eq, nat_lt, vec_capacity};
+ghost use Rattle.std.specs.Prelude.{◌≡◌, ◌<◌, ◌≤◌, ◌+◌, false, not, if◌then◌else◌, length, nat_eq, nat_lt, vec_capacity};
 ghost use Rattle.registrants.specs.Registry.{IsAscending, counted, is_registered, most_registrants};
 ghost use Rattle.reservations.specs.declared.request.PrEnd.TheVariants.{Good};
-ghost use Rattle.reservations.specs.Seen.{Does, value_of};
+ghost use Rattle.reservations.specs.Seen.{Does, IsReady, value_of};
 ghost use Rattle.reservations.specs.Table.{if_ended, registering, registering_one, registering_port, registration, unregistered};
 
 use crate::notice::good;
 use crate::table::{MOST_REGISTRANTS, Table};
 use crate::{Nexus, Notice, PrEnd, PrOut};
 use registrants::{register_nexus, retain_others};
-use scsi_types::Sense;
+use scsi_types::{Sense, UnitAttention};
 
 impl Table {
     /// Registers a nexus, or each nexus of its port, changes the key or takes the registration away. The reservation key has
     /// been looked at.
     pub fn register(&mut self, nexus: &Nexus, request: PrOut) -> PrEnd
-        requires ascending { IsAscending self.old.registrants.items }
-        requires few { length self.old.registrants.items ≤ most_registrants }
-        requires room { 64 ≤ vec_capacity self.old.registrants }
+        requires ready { IsReady self.old }
         ensures does { Does registering self.old self.new nexus.now request result }
         ensures room { vec_capacity self.new.registrants ≡ vec_capacity self.old.registrants }
     {
@@ -29,25 +27,21 @@ impl Table {
 
     // The sender's nexus by itself.
     fn register_one(&mut self, nexus: &Nexus, request: PrOut) -> PrEnd
-        requires ascending { IsAscending self.old.registrants.items }
-        requires few { length self.old.registrants.items ≤ most_registrants }
-        requires room { 64 ≤ vec_capacity self.old.registrants }
+        requires ready { IsReady self.old }
         ensures does { Does registering_one self.old self.new nexus.now request result }
         ensures room { vec_capacity self.new.registrants ≡ vec_capacity self.old.registrants }
     {
         if request.sakey != 0 && !self.has_room_for(self.missing(nexus)) {
             return PrEnd::Illegal(Sense::INSUFFICIENT_REGISTRATION_RESOURCES);
         }
-        let notice = self.notice_of_end();
+        let notice = self.notice_of_end(Notice::ToAll(UnitAttention::ReservationsReleased));
         self.set_registration(nexus, request);
         self.registered(nexus, notice)
     }
 
     // With ALL_TG_PT: the nexus of each target port group with the sender's port.
     fn register_port(&mut self, nexus: &Nexus, request: PrOut) -> PrEnd
-        requires ascending { IsAscending self.old.registrants.items }
-        requires few { length self.old.registrants.items ≤ most_registrants }
-        requires room { 64 ≤ vec_capacity self.old.registrants }
+        requires ready { IsReady self.old }
         ensures does { Does registering_port self.old self.new nexus.now request result }
         ensures room { vec_capacity self.new.registrants ≡ vec_capacity self.old.registrants }
     {
@@ -55,7 +49,7 @@ impl Table {
         if request.sakey != 0 && !self.has_room_for(self.missing(nexus) + self.missing(&other)) {
             return PrEnd::Illegal(Sense::INSUFFICIENT_REGISTRATION_RESOURCES);
         }
-        let notice = self.notice_of_end_elsewhere();
+        let notice = self.notice_of_end(Notice::ToOtherPorts(UnitAttention::ReservationsReleased));
         self.set_registration(nexus, request);
         self.set_registration(&other, request);
         self.registered(nexus, notice)

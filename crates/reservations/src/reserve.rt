@@ -8,7 +8,7 @@ ghost use Rattle.reservations.specs.Table.{releasing, reserving};
 use crate::notice::good;
 use crate::table::Table;
 use crate::{Nexus, Notice, PrEnd, PrOut, Reservation, ReservationType};
-use scsi_types::Sense;
+use scsi_types::{Sense, UnitAttention};
 
 /// A reservation of this type that a nexus makes.
 pub fn reservation_by(nexus: &Nexus, kind: ReservationType) -> Reservation
@@ -51,7 +51,7 @@ impl Table {
         if request.scope != 0 || !self.is_of_code(request.kind) {
             return PrEnd::Illegal(Sense::INVALID_RELEASE_OF_PERSISTENT_RESERVATION);
         }
-        let notice = self.notice_of_end();
+        let notice = self.notice_of_end(Notice::ToAll(UnitAttention::ReservationsReleased));
         self.reservation = None;
         good(nexus, notice)
     }

@@ -5,7 +5,7 @@ ghost use Rattle.registrants.specs.Nexus.{through};
 ghost use Rattle.reservations.specs.Notice.{code_told, tellings};
 ghost use Rattle.registrants.specs.Registry.{is_held_by, is_held_by_all, is_holders_key, is_key, is_of_code, is_registered};
 ghost use Rattle.registrants.specs.Registry.{is_own, is_sole_holder, key_of, left_to};
-ghost use Rattle.reservations.specs.Table.{of_end, of_end_elsewhere};
+ghost use Rattle.reservations.specs.Table.{told_at_end};
 
 use crate::{Nexus, Notice, Registrant, Reservation, Telling};
 use registrants::key_of;
@@ -117,35 +117,13 @@ impl Table {
         }
     }
 
-    /// What the other registrants are told when the reservation ends.
-    pub fn notice_of_end(&self) -> Notice
-        ensures { result ≡ of_end self.now.reservation }
+    /// This notice where the reservation's end is told to others, else nothing.
+    pub fn notice_of_end(&self, notice: Notice) -> Notice
+        ensures { result ≡ told_at_end notice self.now.reservation }
     {
         match &self.reservation {
-            None => Notice::Nothing,
-            Some(held) => {
-                if held.kind.is_of_registrants() {
-                    Notice::ToAll(UnitAttention::ReservationsReleased)
-                } else {
-                    Notice::Nothing
-                }
-            }
-        }
-    }
-
-    /// What the registrants of the other ports are told when it ends with the port of its holder.
-    pub fn notice_of_end_elsewhere(&self) -> Notice
-        ensures { result ≡ of_end_elsewhere self.now.reservation }
-    {
-        match &self.reservation {
-            None => Notice::Nothing,
-            Some(held) => {
-                if held.kind.is_of_registrants() {
-                    Notice::ToOtherPorts(UnitAttention::ReservationsReleased)
-                } else {
-                    Notice::Nothing
-                }
-            }
+            Some(held) if held.kind.is_of_registrants() => notice,
+            Some(_) | None => Notice::Nothing,
         }
     }
 

@@ -11,7 +11,7 @@ returns-then-not-has_room_for-clause-does c =
     let n = c.args.nexus.now in
     let q = c.args.request in
     let none = told_one v.registrants n _ _ false c.missing.ensures c.has_room_for.ensures c.if-not-has_room_for.true in
-    (full_one v n q (too_much_one v n q true c.requires.ascending c.if-request-ne0.true none), refl, refl)
+    (full_one v n q (too_much_one v n q true c.requires.ready.ascending c.if-request-ne0.true none), refl, refl)
 
 pub returns-clause-does : goal.returns-clause-does
 returns-clause-does c =
@@ -21,7 +21,7 @@ returns-clause-does c =
     let fits : is_too_much q (registration v n q) ≡ false =
     elim c.else-request-ne0.branch [
       | else-request-ne0-via-then-request-ne0+else-not-has_room_for w ↦
-          too_much_one v n q false c.requires.ascending w.if-request-ne0.true
+          too_much_one v n q false c.requires.ready.ascending w.if-request-ne0.true
           (told_one v.registrants n _ _ true w.missing.ensures w.has_room_for.ensures w.if-not-has_room_for.false)
       | else-request-ne0-via-else-request-ne0 w ↦ not_too_much q (registration v n q) w.if-request-ne0.false
     ] in
