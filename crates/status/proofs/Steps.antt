@@ -1,5 +1,5 @@
 -- Each step keeps what the passes know.
-use Rattle.std.proofs.Common.{◌≡◌, ◌≢◌, ◌⊎◌, ℕ, zero, suc, ◌+◌, ◌≤◌, List, [], ◌∷◌, ◌++◌, length, set, true, false, true≢false, refl, sym, ap, ◌∙◌, subst, inl, inr, ⊎_elim, arith, length-append, append_assoc, Option, Some, None}
+use Rattle.std.proofs.Common.{◌≡◌, ◌≢◌, ◌⊎◌, ℕ, zero, suc, ◌+◌, ◌<◌, ◌≤◌, Bool, List, [], ◌∷◌, ◌++◌, length, set, true, false, true≢false, refl, sym, ap, ◌∙◌, subst, inl, inr, ⊎_elim, arith, length-append, append_assoc, Option, Some, None}
 use mathlib.Core.Option.{some, some-ne-none, some-injective}
 use mathlib.Core.List.{IsPrefix}
 use lib.ListN.{get_elem?}
@@ -67,6 +67,12 @@ module _ {E S : Type 0} (own command : ℕ → E → ℕ) (legal : S → List E 
       ⊎_elim (λ (only : views ≡ first_view ∷ []). absurd (newborn by v views only at fresh))
       (λ (k : K words views). let r = t words views k at in (r.0, inr r.1, r.2)) h
 
+  turned_as : (by : ℕ) (v h : V) (f : List ℕ → List ℕ) (told : V → List ℕ → List ℕ → V → Type 0) → v ≡ h → h.unborn ≡ false → Turns K by h f told → Turns B by v f told
+  turned_as by v h f told is fresh t = subst (λ (u : V). Turns B by u f told) (sym is) (turned by h f told fresh t)
+
+  becomes_as : (by : ℕ) (v h to : V) (new : List ℕ) → v ≡ h → h.unborn ≡ false → Turns K by h (λ _. new) (λ _ x y w. w ≡ to) → Turns B by v (λ _. new) (λ _ x y w. w ≡ to)
+  becomes_as by v h to new is fresh t = turned_as by v h (λ _. new) (λ _ x y w. w ≡ to) is fresh t
+
   forked : (by : ℕ) (v l r : V) → v.unborn ≡ false → Forks K by v l r → Forks B by v l r
   forked by v l r fresh t = λ words views h at.
       ⊎_elim (λ (only : views ≡ first_view ∷ []). absurd (newborn by v views only at fresh))
@@ -124,7 +130,7 @@ module _ {E S : Type 0} (own command : ℕ → E → ℕ) (legal : S → List E 
       )
 
   pub looks_as : (by : ℕ) (v : V) (s : S) → v ≡ reader s v.seen → Turns B by v (λ x. x) (Looked s legal rows_of)
-  looks_as by v s is = subst (λ (u : V). Turns B by u (λ x. x) (Looked s legal rows_of)) (sym is) (turned by (reader s v.seen) (λ x. x) (Looked s legal rows_of) refl (looks by s v.seen))
+  looks_as by v s is = turned_as by v (reader s v.seen) (λ x. x) (Looked s legal rows_of) is refl (looks by s v.seen)
 
   -- a new pass
   one_more : (words : List ℕ) (views : List V) (k : K words views) (w : V) → ((j : ℕ) → F k.seat k.from k.log j w)
@@ -248,101 +254,94 @@ module _ {E S : Type 0} (own command : ℕ → E → ℕ) (legal : S → List E 
         once = once_set views by w k.once apart;
       }
 
-  adds : (by : ℕ) (s : S) (log : List E) (g : Claim) (e : E) (new : List ℕ) → IsOwn own command g.session e → legal s (log ++ e ∷ []) → new ≡ rows s (log ++ e ∷ [])
-      → Turns K by (holder s log g) (λ _. new) (λ v x y w. w ≡ holder s (log ++ e ∷ []) (record { session = g.session; count = g.count + 1; commands = g.commands + command g.session e }))
-  adds by s log g e new is_own legal_ row_ words views k at =
-      let v = holder s log g in
-      let w = holder s (log ++ e ∷ []) (record { session = g.session; count = g.count + 1; commands = g.commands + command g.session e }) in
+  -- who publishes, with a right in hand or none
+  abbrev working : S → List E → Bool → Claim → V
+  working s log claims g = record { unborn = false; publishes = true; from = Some s; seen = log; claims = claims; session = g.session; count = g.count; commands = g.commands }
+
+  -- The entry may come behind what is kept: it is of no session to come and of no right at another seat, and this view of the publisher has
+  -- counted it.
+  abbrev MayFollow : (words : List ℕ) (views : List V) → K words views → ℕ → E → V → Type 0
+  MayFollow words views k by e w =
+      ((r : ℕ) → length (k.log ++ e ∷ []) ≤ r → (own r e ≡ 0) × (command r e ≡ 0))
+      × ((j : ℕ) (u : V) → j ≢ by → get_elem? views j ≡ some u → u.claims ≡ true → (own u.session e ≡ 0) × (command u.session e ≡ 0))
+      × (w.claims ≡ true → (w.session < length (k.log ++ e ∷ [])) × (counted own w.session (k.log ++ e ∷ []) ≡ w.count)
+      × (counted command w.session (k.log ++ e ∷ []) ≡ w.commands))
+      × Claims views by w
+
+  extends : (by : ℕ) (s : S) (log : List E) (e : E) (new : List ℕ) (b c : Bool) (g h : Claim) → legal s (log ++ e ∷ []) → new ≡ rows s (log ++ e ∷ [])
+      → ((words : List ℕ) (views : List V) (k : K words views) → log ≡ k.log → get_elem? views by ≡ some (working s log b g)
+      → MayFollow words views k by e (working s (log ++ e ∷ []) c h))
+      → Turns K by (working s log b g) (λ _. new) (λ v x y w. w ≡ working s (log ++ e ∷ []) c h)
+  extends by s log e new b c g h legal_ row_ may words views k at =
+      let v = working s log b g in
+      let w = working s (log ++ e ∷ []) c h in
       let mine = k.fits by v at in
       let all : log ≡ k.log = (mine.whole refl).1 in
       let from : s ≡ k.from = mine.opened s refl in
-      let claim = mine.counts refl in
-      let below = claim.0 in
-      let log' = k.log ++ e ∷ [] in
-      let long = length-append k.log (e ∷ []) in
-      let same : (let p : S × List E = (s, log) in p) ≡ (k.from, k.log) = (λ j. (from j, all j)) in (
+      let same : (let p : S × List E = (s, log) in p) ≡ (k.from, k.log) = (λ j. (from j, all j)) in
+      let next = may words views k all at in (
         w,
         grows words new views k by v w e at refl
             (row_ ∙ ap (λ (p : S × List E). rows p.0 (p.1 ++ e ∷ [])) same)
             (subst (λ (p : S × List E). legal p.0 (p.1 ++ e ∷ [])) same legal_)
-            (λ r le. is_own.others r (λ h. let b = below in omega (arith, long, h)))
-            (λ j u far h c. is_own.others u.session (λ m. far (k.once j by u v h at c refl m)))
+            next.0
+            next.1
             record {
               fresh = refl;
               opened = λ x h. same_some s x h ∙ from;
-              begins = subst (λ l. IsPrefix (l ++ e ∷ []) log') (sym all) (prefix_self log');
+              begins = subst (λ l. IsPrefix (l ++ e ∷ []) (k.log ++ e ∷ [])) (sym all) (prefix_self (k.log ++ e ∷ []));
               whole = λ _. ((mine.whole refl).0, ap (λ l. l ++ e ∷ []) all);
-              counts = λ _. (
-                omega (arith, long),
-                let q = counted-snoc own g.session k.log e in let z = claim.1 in let o = is_own.one in omega arith,
-                let q = counted-snoc command g.session k.log e in let z = claim.2 in omega arith,
-              );
+              counts = next.2;
             }
-            (λ _ j u far h c m. far (k.once j by u v h at c refl m)),
+            next.3,
         refl,
       )
+
+  adds : (by : ℕ) (s : S) (log : List E) (g : Claim) (e : E) (new : List ℕ) → IsOwn own command g.session e → legal s (log ++ e ∷ []) → new ≡ rows s (log ++ e ∷ [])
+      → Turns K by (holder s log g) (λ _. new) (λ v x y w. w ≡ holder s (log ++ e ∷ []) (record { session = g.session; count = g.count + 1; commands = g.commands + command g.session e }))
+  adds by s log g e new is_own legal_ row_ =
+      extends by s log e new true true g (record { session = g.session; count = g.count + 1; commands = g.commands + command g.session e }) legal_ row_ (λ words views k all at.
+      let v = holder s log g in
+      let claim = (k.fits by v at).counts refl in
+      let below = claim.0 in
+      let long = length-append k.log (e ∷ []) in (
+        λ r le. is_own.others r (λ h. let b = below in omega (arith, long, h)),
+        λ j u far h c. is_own.others u.session (λ m. far (k.once j by u v h at c refl m)),
+        λ _. (
+          let b = below in omega (arith, long),
+          let q = counted-snoc own g.session k.log e in let z = claim.1 in let o = is_own.one in omega arith,
+          let q = counted-snoc command g.session k.log e in let z = claim.2 in omega arith,
+        ),
+        λ _ j u far h c m. far (k.once j by u v h at c refl m),
+      ))
 
   attaches : (by : ℕ) (s : S) (log : List E) (e : E) (new : List ℕ) → IsFree own command e → legal s (log ++ e ∷ []) → new ≡ rows s (log ++ e ∷ [])
       → Turns K by (publisher s log) (λ _. new) (λ v x y w. w ≡ holder s (log ++ e ∷ []) (record { session = length log; count = 0; commands = 0 }))
-  attaches by s log e new is_free legal_ row_ words views k at =
-      let v = publisher s log in
-      let w = holder s (log ++ e ∷ []) (record { session = length log; count = 0; commands = 0 }) in
-      let mine = k.fits by v at in
-      let all : log ≡ k.log = (mine.whole refl).1 in
-      let from : s ≡ k.from = mine.opened s refl in
-      let log' = k.log ++ e ∷ [] in
-      let long = length-append k.log (e ∷ []) in
+  attaches by s log e new is_free legal_ row_ =
+      extends by s log e new false true (record { session = 0; count = 0; commands = 0 }) (record { session = length log; count = 0; commands = 0 }) legal_ row_ (λ words views k all at.
       let as_long : length log ≡ length k.log = ap length all in
-      let same : (let p : S × List E = (s, log) in p) ≡ (k.from, k.log) = (λ j. (from j, all j)) in
+      let long = length-append k.log (e ∷ []) in
       let none = k.later (length log) (omega (arith, as_long)) in
       let free = is_free (length log) in (
-        w,
-        grows words new views k by v w e at refl
-            (row_ ∙ ap (λ (p : S × List E). rows p.0 (p.1 ++ e ∷ [])) same)
-            (subst (λ (p : S × List E). legal p.0 (p.1 ++ e ∷ [])) same legal_)
-            (λ r le. is_free r)
-            (λ j u far h c. is_free u.session)
-            record {
-              fresh = refl;
-              opened = λ x h. same_some s x h ∙ from;
-              begins = subst (λ l. IsPrefix (l ++ e ∷ []) log') (sym all) (prefix_self log');
-              whole = λ _. ((mine.whole refl).0, ap (λ l. l ++ e ∷ []) all);
-              counts = λ _. (
-                omega (arith, long, as_long),
-                let q = counted-snoc own (length log) k.log e in let z = none.0 in let o = free.0 in omega arith,
-                let q = counted-snoc command (length log) k.log e in let z = none.1 in let o = free.1 in omega arith,
-              );
-            }
-            (λ _ j u far h c m. let b = ((k.fits j u h).counts c).0 in absurd (omega (arith, as_long, m))),
-        refl,
-      )
+        λ r le. is_free r,
+        λ j u far h c. is_free u.session,
+        λ _. (
+          omega (arith, long, as_long),
+          let q = counted-snoc own (length log) k.log e in let z = none.0 in let o = free.0 in omega arith,
+          let q = counted-snoc command (length log) k.log e in let z = none.1 in let o = free.1 in omega arith,
+        ),
+        λ _ j u far h c m. let b = ((k.fits j u h).counts c).0 in absurd (omega (arith, as_long, m)),
+      ))
 
   passes : (by : ℕ) (s : S) (log : List E) (e : E) (new : List ℕ) → IsFree own command e → legal s (log ++ e ∷ []) → new ≡ rows s (log ++ e ∷ [])
       → Turns K by (publisher s log) (λ _. new) (λ v x y w. w ≡ publisher s (log ++ e ∷ []))
-  passes by s log e new is_free legal_ row_ words views k at =
-      let v = publisher s log in
-      let w = publisher s (log ++ e ∷ []) in
-      let mine = k.fits by v at in
-      let all : log ≡ k.log = (mine.whole refl).1 in
-      let from : s ≡ k.from = mine.opened s refl in
-      let log' = k.log ++ e ∷ [] in
-      let same : (let p : S × List E = (s, log) in p) ≡ (k.from, k.log) = (λ j. (from j, all j)) in (
-        w,
-        grows words new views k by v w e at refl
-            (row_ ∙ ap (λ (p : S × List E). rows p.0 (p.1 ++ e ∷ [])) same)
-            (subst (λ (p : S × List E). legal p.0 (p.1 ++ e ∷ [])) same legal_)
-            (λ r le. is_free r)
-            (λ j u far h c. is_free u.session)
-            record {
-              fresh = refl;
-              opened = λ x h. same_some s x h ∙ from;
-              begins = subst (λ l. IsPrefix (l ++ e ∷ []) log') (sym all) (prefix_self log');
-              whole = λ _. ((mine.whole refl).0, ap (λ l. l ++ e ∷ []) all);
-              counts = λ h. absurd (off h);
-            }
-            (λ h. absurd (off h)),
-        refl,
-      )
+  passes by s log e new is_free legal_ row_ =
+      extends by s log e new false false (record { session = 0; count = 0; commands = 0 }) (record { session = 0; count = 0; commands = 0 }) legal_ row_ (λ words views k all at. (
+        λ r le. is_free r,
+        λ j u far h c. is_free u.session,
+        λ h. absurd (off h),
+        λ h. absurd (off h),
+      ))
 
   learns : (by : ℕ) (s : S) (log : List E) (g : Claim) → Turns K by (holder s log g) (λ x. x) (Learned own command)
   learns by s log g words views k at =
@@ -356,28 +355,21 @@ module _ {E S : Type 0} (own command : ℕ → E → ℕ) (legal : S → List E 
   pub adds_as : (by : ℕ) (v : V) (s : S) (e : E) (new : List ℕ) → v ≡ holder s v.seen (claim_of v) → IsOwn own command v.session e → legal s (v.seen ++ e ∷ []) → new ≡ rows s (v.seen ++ e ∷ [])
       → Turns B by v (λ _. new) (λ _ x y w. w ≡ holder s (v.seen ++ e ∷ []) (record { session = v.session; count = v.count + 1; commands = v.commands + command v.session e }))
   adds_as by v s e new is o l r =
-      let h = holder s v.seen (claim_of v) in
-      let to = holder s (v.seen ++ e ∷ []) (record { session = v.session; count = v.count + 1; commands = v.commands + command v.session e }) in
-      subst (λ (u : V). Turns B by u (λ _. new) (λ _ x y w. w ≡ to)) (sym is) (turned by h (λ _. new) (λ _ x y w. w ≡ to) refl (adds by s v.seen (claim_of v) e new o l r))
+      becomes_as by v (holder s v.seen (claim_of v)) _ new is refl (adds by s v.seen (claim_of v) e new o l r)
 
   pub attaches_as : (by : ℕ) (v : V) (s : S) (e : E) (new : List ℕ) → v ≡ publisher s v.seen → IsFree own command e → legal s (v.seen ++ e ∷ []) → new ≡ rows s (v.seen ++ e ∷ [])
       → Turns B by v (λ _. new) (λ _ x y w. w ≡ holder s (v.seen ++ e ∷ []) (record { session = length v.seen; count = 0; commands = 0 }))
   attaches_as by v s e new is o l r =
-      let h = publisher s v.seen in
-      let to = holder s (v.seen ++ e ∷ []) (record { session = length v.seen; count = 0; commands = 0 }) in
-      subst (λ (u : V). Turns B by u (λ _. new) (λ _ x y w. w ≡ to)) (sym is) (turned by h (λ _. new) (λ _ x y w. w ≡ to) refl (attaches by s v.seen e new o l r))
+      becomes_as by v (publisher s v.seen) _ new is refl (attaches by s v.seen e new o l r)
 
   pub passes_as : (by : ℕ) (v : V) (s : S) (e : E) (new : List ℕ) → v ≡ publisher s v.seen → IsFree own command e → legal s (v.seen ++ e ∷ []) → new ≡ rows s (v.seen ++ e ∷ [])
       → Turns B by v (λ _. new) (λ _ x y w. w ≡ publisher s (v.seen ++ e ∷ []))
   passes_as by v s e new is o l r =
-      let h = publisher s v.seen in
-      let to = publisher s (v.seen ++ e ∷ []) in
-      subst (λ (u : V). Turns B by u (λ _. new) (λ _ x y w. w ≡ to)) (sym is) (turned by h (λ _. new) (λ _ x y w. w ≡ to) refl (passes by s v.seen e new o l r))
+      becomes_as by v (publisher s v.seen) _ new is refl (passes by s v.seen e new o l r)
 
   pub learns_as : (by : ℕ) (v : V) (s : S) → v ≡ holder s v.seen (claim_of v) → Turns B by v (λ x. x) (Learned own command)
   learns_as by v s is =
-      let h = holder s v.seen (claim_of v) in
-      subst (λ (u : V). Turns B by u (λ x. x) (Learned own command)) (sym is) (turned by h (λ x. x) (Learned own command) refl (learns by s v.seen (claim_of v)))
+      turned_as by v (holder s v.seen (claim_of v)) (λ x. x) (Learned own command) is refl (learns by s v.seen (claim_of v))
 
   begun : (s : S) (words : List ℕ) → words ≡ rows s [] → legal s [] → K words (publisher s [] ∷ [])
   begun s words is may = record { seat = 0; from = s; log = []; words_are = is; is_legal = may; later = λ s le. (refl, refl); fits = one; once = alone }

@@ -120,28 +120,13 @@ pub(crate) fn split_right<E, S, P: Published<E, S>, J: Origin<S>>(
     split::<E, S, P, Holds>(cell, keeper)
 }
 
-/// Writes a row, whatever is known then.
-fn become_as<E, S, P: Published<E, S>, K: Now<E, S>, A, M: Plain<A, E, Answer>, R: Wait>(
+/// Writes a row, whatever is known then, which may be said by what the row is about.
+fn become_as<E, S, P: Published<E, S>, K: Now<E, S>, A, R: Wait>(
     rt: &R,
     cell: &Cell<E, S, P>,
     keeper: &mut Token<E, S>,
     words: Words,
     about: &A,
-)
-    requires cell { keeper.old.table_id ≡ cell.now.table.shared.table_id }
-    requires rule { Turns (IsBoard P.own P.command P.legal (worded P.rows)) keeper.old.id (cell_view keeper.old) (λ _. words)
-        (λ v x y w. w ≡ K.view) }
-    ensures { IsSamePass keeper.old keeper.new × (cell_view keeper.new ≡ K.view) }
-{
-    cell.swap_as::<Becomes<K>, R>(rt, keeper, words);
-}
-
-/// Writes the first row.
-fn begin_as<E, S, P: Published<E, S>, K: Now<E, S>, R: Wait>(
-    rt: &R,
-    cell: &Cell<E, S, P>,
-    keeper: &mut Token<E, S>,
-    words: Words,
 )
     requires cell { keeper.old.table_id ≡ cell.now.table.shared.table_id }
     requires rule { Turns (IsBoard P.own P.command P.legal (worded P.rows)) keeper.old.id (cell_view keeper.old) (λ _. words)
@@ -164,7 +149,7 @@ pub(crate) fn open<E, S, P: Published<E, S>, J: Origin<S>, R: Wait>(
     requires row { row ≡ P.rows J.from [] }
     ensures { IsSamePass keeper.old keeper.new × (cell_view keeper.new ≡ publisher J.from []) }
 {
-    begin_as::<E, S, P, Brand, R>(rt, cell, keeper, row.words());
+    become_as::<E, S, P, Brand, Row, R>(rt, cell, keeper, row.words(), &row);
 }
 
 /// Publishes one more entry of the session whose right is in the publisher's hand.
@@ -190,7 +175,7 @@ pub(crate) fn publish_own<
           commands = (cell_view keeper.old).commands + P.command (cell_view keeper.old).session (M.ask about.entry.now);
         })) }
 {
-    become_as::<E, S, P, Brand, A, M, R>(rt, cell, keeper, row.words(), about);
+    become_as::<E, S, P, Brand, A, R>(rt, cell, keeper, row.words(), about);
 }
 
 /// Publishes an entry by which a session begins, whose right is then in the publisher's hand.
@@ -212,7 +197,7 @@ pub(crate) fn publish_new<
         × (cell_view keeper.new ≡ holder J.from ((cell_view keeper.old).seen ++ M.ask about.entry.now ∷ [])
         (record { session = length (cell_view keeper.old).seen; count = 0; commands = 0 })) }
 {
-    become_as::<E, S, P, Brand, A, M, R>(rt, cell, keeper, row.words(), about);
+    become_as::<E, S, P, Brand, A, R>(rt, cell, keeper, row.words(), about);
 }
 
 /// Publishes an entry of no session's own.
@@ -233,7 +218,7 @@ pub(crate) fn publish_free<
     ensures { IsSamePass keeper.old keeper.new
         × (cell_view keeper.new ≡ publisher J.from ((cell_view keeper.old).seen ++ M.ask about.entry.now ∷ [])) }
 {
-    become_as::<E, S, P, Brand, A, M, R>(rt, cell, keeper, row.words(), about);
+    become_as::<E, S, P, Brand, A, R>(rt, cell, keeper, row.words(), about);
 }
 
 /// Finds that the right in the publisher's hand has counted all of the session's own entries, and all its commands.
