@@ -12,6 +12,7 @@ use Rattle.scsi_types.specs.declared.command.Command.TheVariants.{PersistentRese
 use Rattle.scsi_types.specs.declared.command.Command.TheVariants.{ReportTargetPortGroups, SetTargetPortGroups}
 use Rattle.scsi_types.specs.declared.command.CdbFault.{CdbFault}
 use Rattle.scsi_types.specs.declared.command.CdbFault.TheVariants.{UnknownOpcode, BadField}
+use Rattle.scsi_types.specs.declared.medium.Transfer.{Transfer}
 use Rattle.scsi_types.specs.declared.pages.InquiryPage.{InquiryPage}
 use Rattle.scsi_types.specs.declared.pages.ModeHeader.{ModeHeader}
 use Rattle.scsi_types.specs.declared.pages.ModeHeader.TheVariants.{Six, Ten}
@@ -22,6 +23,7 @@ use Rattle.scsi_types.specs.declared.reservation.PrInAction.{PrInAction}
 use Rattle.scsi_types.specs.declared.reservation.PrOutAction.{PrOutAction}
 use Rattle.scsi_types.specs.declared.reservation.PrOutAction.TheVariants.{Reserve}
 use Rattle.scsi_types.specs.Form.{HasForm, op_of}
+use Rattle.scsi_types.specs.Found.{IsFoundBy}
 use Rattle.scsi_types.specs.Pages.{IsInquiryPage, control_code, mode_page_code, select_code}
 use Rattle.scsi_types.specs.Reservation.{in_code, out_code, IsReservationType}
 
@@ -58,6 +60,12 @@ most_compared = 32
 pub record IsGoodTransfer (cdb : List ℕ) (blocks most : ℕ) : Type 0 where
   pub unprotected : protect_of cdb ≡ 0
   pub within : blocks ≤ most
+
+-- the fields of a READ or a WRITE with this LBA and length, where the array takes it
+abbrev pub HasTransfer : List ℕ → ℕ → ℕ → Option Transfer → Type 0
+HasTransfer cdb lba blocks None = IsGoodTransfer cdb blocks most_blocks → ⊥
+HasTransfer cdb lba blocks (Some t) =
+    IsGoodTransfer cdb blocks most_blocks × (t ≡ record { lba = lba; blocks = blocks; fua = fua_of cdb })
 
 -- a READ, a WRITE or a COMPARE AND WRITE of so many blocks from this LBA on
 abbrev pub Transfers : (ℕ → ℕ → Bool → Command) → ℕ → List ℕ → ℕ → ℕ → Command → Type 0
@@ -114,8 +122,7 @@ Asks forms.SetTargetPortGroups cdb c = c ≡ SetTargetPortGroups (field 6 9 cdb)
 
 -- a CDB of this form asks for this command, or has a bad field
 abbrev pub Decodes : CdbForm → List ℕ → Option Command → Type 0
-Decodes form cdb None = (c : Command) → Asks form cdb c → ⊥
-Decodes form cdb (Some c) = Asks form cdb c
+Decodes form cdb = IsFoundBy (Asks form cdb)
 
 -- the CDB asks for this: a command of its form, or none of its form's commands, or it has none of the forms
 abbrev pub Means : List ℕ → Result Command CdbFault → Type 0

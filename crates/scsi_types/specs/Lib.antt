@@ -1,6 +1,7 @@
 pub mod Attention
 pub mod Cdb
 pub mod Form
+pub mod Found
 pub mod Lun
 pub mod Nexus
 pub mod Pages

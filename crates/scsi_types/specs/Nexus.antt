@@ -21,10 +21,14 @@ pub record Port : Type 0 where
   pub name : List ℕ
   pub isid : ℕ
 
--- an initiator port as iSCSI names one (RFC 7143, 4.2.7.1 and 10.12.5): a name of 1 to 223 bytes, and an ISID of six
+-- the most bytes of an iSCSI name (RFC 7143, 4.2.7.1)
+abbrev pub longest_name : ℕ
+longest_name = 223
+
+-- an initiator port as iSCSI names one (RFC 7143, 10.12.5): a name that is not empty, and an ISID of six bytes
 pub record IsPortName (port : Port) : Type 0 where
   pub some : 0 < length port.name
-  pub short : length port.name ≤ 223
+  pub short : length port.name ≤ longest_name
   pub isid : port.isid < 2 ^ 48
 
 -- an I_T nexus: the initiator port, and the target port group by which it came (SAM-5, 3.1)

@@ -6,8 +6,8 @@ ghost use Rattle.scsi_types.specs.Cdb.{Decodes, Means};
 
 use crate::inquiries::{inquiry, mode_sense_6, mode_sense_10, report_luns, request_sense};
 use crate::medium::{
-    compare_and_write, read_6, read_10, read_16, read_capacity_16, synchronize_cache_10,
-    synchronize_cache_16, write_6, write_10, write_16,
+    compare_and_write, read_capacity_16, synchronize_cache_10, synchronize_cache_16, transfer_6,
+    transfer_10, transfer_16,
 };
 use crate::persistent_reserve::{persistent_reserve_in, persistent_reserve_out};
 use crate::port_groups::{report_target_port_groups, set_target_port_groups};
@@ -44,20 +44,20 @@ fn command_of(form: CdbForm, cdb: &[u8; 16]) -> Option<Command>
     match form {
         CdbForm::TestUnitReady => Some(Command::TestUnitReady),
         CdbForm::RequestSense => request_sense(cdb),
-        CdbForm::Read6 => Some(read_6(cdb)),
-        CdbForm::Write6 => Some(write_6(cdb)),
+        CdbForm::Read6 => Some(transfer_6(cdb).read()),
+        CdbForm::Write6 => Some(transfer_6(cdb).write()),
         CdbForm::Inquiry => inquiry(cdb),
         CdbForm::ModeSense6 => mode_sense_6(cdb),
         CdbForm::ReadCapacity10 => Some(Command::ReadCapacity10),
-        CdbForm::Read10 => read_10(cdb),
-        CdbForm::Write10 => write_10(cdb),
+        CdbForm::Read10 => Some(transfer_10(cdb)?.read()),
+        CdbForm::Write10 => Some(transfer_10(cdb)?.write()),
         CdbForm::SynchronizeCache10 => Some(synchronize_cache_10(cdb)),
         CdbForm::ModeSense10 => mode_sense_10(cdb),
         CdbForm::PersistentReserveIn => persistent_reserve_in(cdb),
         CdbForm::PersistentReserveOut => persistent_reserve_out(cdb),
-        CdbForm::Read16 => read_16(cdb),
+        CdbForm::Read16 => Some(transfer_16(cdb)?.read()),
         CdbForm::CompareAndWrite => compare_and_write(cdb),
-        CdbForm::Write16 => write_16(cdb),
+        CdbForm::Write16 => Some(transfer_16(cdb)?.write()),
         CdbForm::SynchronizeCache16 => Some(synchronize_cache_16(cdb)),
         CdbForm::ReadCapacity16 => Some(read_capacity_16(cdb)),
         CdbForm::ReportLuns => report_luns(cdb),

@@ -80,14 +80,13 @@ const REPORT_TARGET_PORT_GROUPS: u8 = 0x0A;
 const SET_TARGET_PORT_GROUPS: u8 = 0x0A;
 
 impl CdbForm {
-    ghost use Rattle.std.specs.Prelude.{MatchOption};
     ghost use Rattle.scsi_types.specs.Form.{HasForm, op_of};
-    ghost use Rattle.scsi_types.specs.declared.form.CdbForm.{CdbForm};
+    ghost use Rattle.scsi_types.specs.Found.{IsFoundBy};
 
     /// The form of a CDB, by its operation code and, where several commands have that, its service action; none
     /// where the array knows no such command.
     pub fn of(cdb: &[u8; 16]) -> Option<CdbForm>
-        ensures { MatchOption result ((form : CdbForm) → HasForm cdb.now form → ⊥) (HasForm cdb.now) }
+        ensures { IsFoundBy (HasForm cdb.now) result }
     {
         let service_action = cdb[1] % 32;
         match cdb[0] {

@@ -27,7 +27,7 @@ pub use form::CdbForm;
 pub use lun::Lun;
 pub use medium::MOST_BLOCKS;
 pub use memory::NoMemory;
-pub use names::{Group, Place, PortName};
+pub use names::{Group, LONGEST_NAME, Place, PortName};
 pub use pages::{InquiryPage, LunSelect, ModeHeader, ModePage, PageControl};
 pub use reply::Reply;
 pub use reservation::{PrInAction, PrOutAction};

@@ -1,7 +1,7 @@
 //! The fields of the commands on the medium (SBC-3, section 5).
-ghost use Rattle.std.specs.Prelude.{◌≡◌, ◌↔◌, ◌-◌, IsTrue, MatchOption};
+ghost use Rattle.std.specs.Prelude.{◌≡◌, ◌↔◌, IsTrue, false};
 ghost use Rattle.scsi_types.specs.declared.form.CdbForm.TheVariants as forms;
-ghost use Rattle.scsi_types.specs.Cdb.{Asks, Decodes, IsGoodTransfer, blocks_6, field, fua_of, lba_6, most_blocks};
+ghost use Rattle.scsi_types.specs.Cdb.{Asks, Decodes, HasTransfer, IsGoodTransfer, blocks_6, field, fua_of, lba_6};
 
 use crate::Command;
 use byteorder::{BigEndian, ByteOrder};
@@ -26,114 +26,73 @@ fn fua(cdb: &[u8; 16]) -> bool
     cdb[1] / 8 % 2 == 1
 }
 
-// LBA and length of READ (6) and WRITE (6).
-fn transfer_6(cdb: &[u8; 16]) -> (u64, u16)
-    ensures lba { result.0 ≡ lba_6 cdb.now }
-    ensures blocks { result.1 ≡ blocks_6 cdb.now }
+/// What a READ or a WRITE moves: from which block on, how many, and whether past every cache.
+pub struct Transfer {
+    lba: u64,
+    blocks: u16,
+    fua: bool,
+}
+
+impl Transfer {
+    /// The READ that moves it.
+    pub fn read(self) -> Command
+        ensures { result ≡ Command.Read self.lba self.blocks self.fua }
+    {
+        let Transfer { lba, blocks, fua } = self;
+        Command::Read { lba, blocks, fua }
+    }
+
+    /// The WRITE that moves it.
+    pub fn write(self) -> Command
+        ensures { result ≡ Command.Write self.lba self.blocks self.fua }
+    {
+        let Transfer { lba, blocks, fua } = self;
+        Command::Write { lba, blocks, fua }
+    }
+}
+
+/// The fields of READ (6) and WRITE (6), which have no FUA.
+pub fn transfer_6(cdb: &[u8; 16]) -> Transfer
+    ensures { result ≡ record { lba = lba_6 cdb.now; blocks = blocks_6 cdb.now; fua = false } }
 {
     let lba = BigEndian::read_u24(&cdb[1..]) % 0x20_0000;
     let blocks = if cdb[4] == 0 { 256 } else { u16::from(cdb[4]) };
-    (u64::from(lba), blocks)
-}
-
-// LBA and length of READ (10) and WRITE (10), unless a field is bad.
-fn transfer_10(cdb: &[u8; 16]) -> Option<(u64, u16)>
-    ensures { MatchOption result
-        (IsGoodTransfer cdb.now (field 7 8 cdb.now) most_blocks → ⊥)
-        (λ t. IsGoodTransfer cdb.now (field 7 8 cdb.now) most_blocks
-        × (t.0 ≡ field 2 5 cdb.now) × (t.1 ≡ field 7 8 cdb.now)) }
-{
-    let blocks = BigEndian::read_u16(&cdb[7..]);
-    if !is_good_transfer(cdb, u32::from(blocks), u32::from(MOST_BLOCKS)) {
-        return None;
+    Transfer {
+        lba: u64::from(lba),
+        blocks,
+        fua: false,
     }
-    Some((u64::from(BigEndian::read_u32(&cdb[2..])), blocks))
 }
 
-// LBA and length of READ (16) and WRITE (16), unless a field is bad.
-fn transfer_16(cdb: &[u8; 16]) -> Option<(u64, u16)>
-    ensures { MatchOption result
-        (IsGoodTransfer cdb.now (field 10 13 cdb.now) most_blocks → ⊥)
-        (λ t. IsGoodTransfer cdb.now (field 10 13 cdb.now) most_blocks
-        × (t.0 ≡ field 2 9 cdb.now) × (t.1 ≡ field 10 13 cdb.now)) }
+// The fields of a READ or a WRITE with this LBA and length, unless one is bad.
+fn transfer_of(cdb: &[u8; 16], lba: u64, blocks: u32) -> Option<Transfer>
+    ensures { HasTransfer cdb.now lba blocks result }
 {
-    let blocks = BigEndian::read_u32(&cdb[10..]);
     if !is_good_transfer(cdb, blocks, u32::from(MOST_BLOCKS)) {
         return None;
     }
-    Some((BigEndian::read_u64(&cdb[2..]), blocks as u16))
-}
-
-/// READ (6).
-pub fn read_6(cdb: &[u8; 16]) -> Command
-    ensures { Asks forms.Read6 cdb.now result }
-{
-    let (lba, blocks) = transfer_6(cdb);
-    Command::Read {
+    Some(Transfer {
         lba,
-        blocks,
-        fua: false,
-    }
-}
-
-/// WRITE (6).
-pub fn write_6(cdb: &[u8; 16]) -> Command
-    ensures { Asks forms.Write6 cdb.now result }
-{
-    let (lba, blocks) = transfer_6(cdb);
-    Command::Write {
-        lba,
-        blocks,
-        fua: false,
-    }
-}
-
-/// READ (10).
-pub fn read_10(cdb: &[u8; 16]) -> Option<Command>
-    ensures { Decodes forms.Read10 cdb.now result }
-{
-    let (lba, blocks) = transfer_10(cdb)?;
-    Some(Command::Read {
-        lba,
-        blocks,
+        blocks: blocks as u16,
         fua: fua(cdb),
     })
 }
 
-/// WRITE (10).
-pub fn write_10(cdb: &[u8; 16]) -> Option<Command>
-    ensures { Decodes forms.Write10 cdb.now result }
+/// The fields of READ (10) and WRITE (10), unless one is bad.
+pub fn transfer_10(cdb: &[u8; 16]) -> Option<Transfer>
+    ensures { HasTransfer cdb.now (field 2 5 cdb.now) (field 7 8 cdb.now) result }
 {
-    let (lba, blocks) = transfer_10(cdb)?;
-    Some(Command::Write {
-        lba,
-        blocks,
-        fua: fua(cdb),
-    })
+    let lba = BigEndian::read_u32(&cdb[2..]);
+    let blocks = BigEndian::read_u16(&cdb[7..]);
+    transfer_of(cdb, u64::from(lba), u32::from(blocks))
 }
 
-/// READ (16).
-pub fn read_16(cdb: &[u8; 16]) -> Option<Command>
-    ensures { Decodes forms.Read16 cdb.now result }
+/// The fields of READ (16) and WRITE (16), unless one is bad.
+pub fn transfer_16(cdb: &[u8; 16]) -> Option<Transfer>
+    ensures { HasTransfer cdb.now (field 2 9 cdb.now) (field 10 13 cdb.now) result }
 {
-    let (lba, blocks) = transfer_16(cdb)?;
-    Some(Command::Read {
-        lba,
-        blocks,
-        fua: fua(cdb),
-    })
-}
-
-/// WRITE (16).
-pub fn write_16(cdb: &[u8; 16]) -> Option<Command>
-    ensures { Decodes forms.Write16 cdb.now result }
-{
-    let (lba, blocks) = transfer_16(cdb)?;
-    Some(Command::Write {
-        lba,
-        blocks,
-        fua: fua(cdb),
-    })
+    let lba = BigEndian::read_u64(&cdb[2..]);
+    transfer_of(cdb, lba, BigEndian::read_u32(&cdb[10..]))
 }
 
 /// COMPARE AND WRITE.

@@ -47,8 +47,8 @@ pub struct Place {
     pub array: u32,
 }
 
-// The most bytes of an InitiatorName (RFC 7143, 4.2.7.1).
-const LONGEST_NAME: usize = 223;
+/// The most bytes of an iSCSI name (RFC 7143, 4.2.7.1).
+pub const LONGEST_NAME: usize = 223;
 
 /// The name of an initiator port (RFC 7143, 4.4.3): the InitiatorName's bytes, 1 to 223, and the ISID, of six bytes.
 #[derive(Drop)]

@@ -1,5 +1,6 @@
 //! What INQUIRY, MODE SENSE and REPORT LUNS are asked to tell.
-ghost use Rattle.std.specs.Prelude.{◌≡◌, ◌/◌, MatchOption};
+ghost use Rattle.std.specs.Prelude.{◌≡◌, ◌/◌};
+ghost use Rattle.scsi_types.specs.Found.{IsFoundBy};
 
 /// A page of INQUIRY data.
 #[derive(Clone, Copy, Debug, PartialEq, Eq)]
@@ -55,14 +56,11 @@ pub enum LunSelect {
 }
 
 impl InquiryPage {
-    ghost use Rattle.scsi_types.specs.declared.pages.InquiryPage.{InquiryPage};
     ghost use Rattle.scsi_types.specs.Pages.{IsInquiryPage};
 
     // The page of an EVPD bit and a PAGE CODE.
     pub(crate) fn of(evpd: u8, code: u8) -> Option<InquiryPage>
-        ensures { MatchOption result
-            ((page : InquiryPage) → IsInquiryPage evpd code page → ⊥)
-            (IsInquiryPage evpd code) }
+        ensures { IsFoundBy (IsInquiryPage evpd code) result }
     {
         match (evpd, code) {
             (0, 0x00) => Some(InquiryPage::Standard),
@@ -94,14 +92,11 @@ impl PageControl {
 }
 
 impl ModePage {
-    ghost use Rattle.scsi_types.specs.declared.pages.ModePage.{ModePage};
     ghost use Rattle.scsi_types.specs.Pages.{mode_page_code};
 
     // The page of a PAGE CODE.
     pub(crate) fn of(code: u8) -> Option<ModePage>
-        ensures { MatchOption result
-            ((page : ModePage) → code ≡ mode_page_code page → ⊥)
-            (λ page. code ≡ mode_page_code page) }
+        ensures { IsFoundBy (λ page. code ≡ mode_page_code page) result }
     {
         match code {
             0x08 => Some(ModePage::Caching),
@@ -113,14 +108,11 @@ impl ModePage {
 }
 
 impl LunSelect {
-    ghost use Rattle.scsi_types.specs.declared.pages.LunSelect.{LunSelect};
     ghost use Rattle.scsi_types.specs.Pages.{select_code};
 
     // The choice of a SELECT REPORT byte.
     pub(crate) fn of(code: u8) -> Option<LunSelect>
-        ensures { MatchOption result
-            ((select : LunSelect) → code ≡ select_code select → ⊥)
-            (λ select. code ≡ select_code select) }
+        ensures { IsFoundBy (λ select. code ≡ select_code select) result }
     {
         match code {
             0 => Some(LunSelect::Units),

@@ -1,5 +1,6 @@
 //! Persistent reservations.
-ghost use Rattle.std.specs.Prelude.{◌≡◌, MatchOption};
+ghost use Rattle.std.specs.Prelude.{◌≡◌};
+ghost use Rattle.scsi_types.specs.Found.{IsFoundBy};
 
 /// A service action of PERSISTENT RESERVE IN (SPC-4, 6.15.1), 0 to 3 in this order.
 #[derive(Clone, Copy, Debug, PartialEq, Eq)]
@@ -23,14 +24,11 @@ pub enum PrOutAction {
 }
 
 impl PrInAction {
-    ghost use Rattle.scsi_types.specs.declared.reservation.PrInAction.{PrInAction};
     ghost use Rattle.scsi_types.specs.Reservation.{in_code};
 
     // The action of a service action code.
     pub(crate) fn of(code: u8) -> Option<PrInAction>
-        ensures { MatchOption result
-            ((action : PrInAction) → code ≡ in_code action → ⊥)
-            (λ action. code ≡ in_code action) }
+        ensures { IsFoundBy (λ action. code ≡ in_code action) result }
     {
         match code {
             0 => Some(PrInAction::ReadKeys),
@@ -43,14 +41,11 @@ impl PrInAction {
 }
 
 impl PrOutAction {
-    ghost use Rattle.scsi_types.specs.declared.reservation.PrOutAction.{PrOutAction};
     ghost use Rattle.scsi_types.specs.Reservation.{out_code};
 
     // The action of a service action code.
     pub(crate) fn of(code: u8) -> Option<PrOutAction>
-        ensures { MatchOption result
-            ((action : PrOutAction) → code ≡ out_code action → ⊥)
-            (λ action. code ≡ out_code action) }
+        ensures { IsFoundBy (λ action. code ≡ out_code action) result }
     {
         match code {
             0 => Some(PrOutAction::Register),
