@@ -20,37 +20,22 @@ counters_of reads_failed writes_failed opens_failed file_failures u =
     counters (reads_failed u.device) (writes_failed u.device) (opens_failed u.opener) (file_failures u.file.device)
 
 -- which of them a choice tells of
-abbrev pub is_read_failed : Choice → Bool
-is_read_failed Fine = false
-is_read_failed ReadFailed = true
-is_read_failed (WriteFailed after) = false
-is_read_failed OpenFailed = false
-is_read_failed (SaveFailed after) = false
+pub record Failed : Type 0 where
+  pub reads : Bool
+  pub writes : Bool
+  pub opens : Bool
+  pub saves : Bool
 
-abbrev pub is_write_failed : Choice → Bool
-is_write_failed Fine = false
-is_write_failed ReadFailed = false
-is_write_failed (WriteFailed after) = true
-is_write_failed OpenFailed = false
-is_write_failed (SaveFailed after) = false
-
-abbrev pub is_open_failed : Choice → Bool
-is_open_failed Fine = false
-is_open_failed ReadFailed = false
-is_open_failed (WriteFailed after) = false
-is_open_failed OpenFailed = true
-is_open_failed (SaveFailed after) = false
-
-abbrev pub is_save_failed : Choice → Bool
-is_save_failed Fine = false
-is_save_failed ReadFailed = false
-is_save_failed (WriteFailed after) = false
-is_save_failed OpenFailed = false
-is_save_failed (SaveFailed after) = true
+abbrev pub failed_by : Choice → Failed
+failed_by Fine = record { reads = false; writes = false; opens = false; saves = false }
+failed_by ReadFailed = record { reads = true; writes = false; opens = false; saves = false }
+failed_by (WriteFailed after) = record { reads = false; writes = true; opens = false; saves = false }
+failed_by OpenFailed = record { reads = false; writes = false; opens = true; saves = false }
+failed_by (SaveFailed after) = record { reads = false; writes = false; opens = false; saves = true }
 
 -- each count rises exactly where the choice tells of that failure
 pub record AreCounted (before now : Counters) (choice : Choice) : Type 0 where
-  pub reads : Tells before.reads now.reads (IsTrue (not (is_read_failed choice)))
-  pub writes : Tells before.writes now.writes (IsTrue (not (is_write_failed choice)))
-  pub opens : Tells before.opens now.opens (IsTrue (not (is_open_failed choice)))
-  pub saves : Tells before.saves now.saves (IsTrue (not (is_save_failed choice)))
+  pub reads : Tells before.reads now.reads (IsTrue (not (failed_by choice).reads))
+  pub writes : Tells before.writes now.writes (IsTrue (not (failed_by choice).writes))
+  pub opens : Tells before.opens now.opens (IsTrue (not (failed_by choice).opens))
+  pub saves : Tells before.saves now.saves (IsTrue (not (failed_by choice).saves))
