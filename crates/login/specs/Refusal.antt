@@ -5,6 +5,7 @@ use Rattle.login.specs.Text.{Pair, is_byte, is_text, pairs, found}
 use Rattle.login.specs.Number.{is_listed}
 use Rattle.login.specs.Table.{row_of, key_named}
 use Rattle.login.specs.Progress.{Progress}
+use Rattle.scsi_types.specs.Nexus.{longest_name}
 use Rattle.login.specs.declared.key.Key.{Key}
 use Rattle.login.specs.declared.key.Key.TheVariants as Of
 use Rattle.login.specs.declared.status.LoginFlags.{LoginFlags}
@@ -65,10 +66,10 @@ has_repeated first said (p ∷ ps) =
     ((first || not (stands_from_first (key_named p.key))) && (has_key p.key said || has_key p.key ps))
     || has_repeated first said ps
 
--- a name has at least so many bytes, and at most 223 (RFC 7143, 4.2.7.1)
+-- a name has at least so many bytes, and no more than a name may have
 abbrev pub has_bad_length : ℕ → Option (List ℕ) → Bool
 has_bad_length least None = false
-has_bad_length least (Some name) = nat_lt (length name) least || nat_lt 223 (length name)
+has_bad_length least (Some name) = nat_lt (length name) least || nat_lt longest_name (length name)
 
 abbrev pub has_bad_name : List Pair → Bool
 has_bad_name ps = has_bad_length 1 (value_said Of.InitiatorName ps) || has_bad_length 0 (value_said Of.TargetName ps)

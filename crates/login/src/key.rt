@@ -98,22 +98,10 @@ fn entry(name: &'static [u8], rule: Rule, default: Value) -> KeyRule
     }
 }
 
-fn least(low: u32, high: u32, own: u32) -> Rule
-    ensures { result ≡ Rule.Least (limits low high own) }
+fn limits(low: u32, high: u32, own: u32) -> Limits
+    ensures { result ≡ limits low high own }
 {
-    Rule::Least(Limits { low, high, own })
-}
-
-fn greatest(low: u32, high: u32, own: u32) -> Rule
-    ensures { result ≡ Rule.Greatest (limits low high own) }
-{
-    Rule::Greatest(Limits { low, high, own })
-}
-
-fn declared(low: u32, high: u32, own: u32) -> Rule
-    ensures { result ≡ Rule.Declared (limits low high own) }
-{
-    Rule::Declared(Limits { low, high, own })
+    Limits { low, high, own }
 }
 
 impl Key {
@@ -131,40 +119,44 @@ impl Key {
             Key::ImmediateData => entry(b"ImmediateData", Rule::Both(true), YES),
             Key::MaxBurstLength => entry(
                 b"MaxBurstLength",
-                least(512, LONGEST, 262144),
+                Rule::Least(limits(512, LONGEST, 262144)),
                 Value::Number(262144),
             ),
             Key::FirstBurstLength => entry(
                 b"FirstBurstLength",
-                least(512, LONGEST, 65536),
+                Rule::Least(limits(512, LONGEST, 65536)),
                 Value::Number(65536),
             ),
             Key::MaxRecvDataSegmentLength => entry(
                 b"MaxRecvDataSegmentLength",
-                declared(512, LONGEST, DATA_SEGMENT_LENGTH),
+                Rule::Declared(limits(512, LONGEST, DATA_SEGMENT_LENGTH)),
                 Value::Number(8192),
             ),
-            Key::MaxConnections => entry(b"MaxConnections", least(1, 65535, 1), Value::Number(1)),
+            Key::MaxConnections => entry(
+                b"MaxConnections",
+                Rule::Least(limits(1, 65535, 1)),
+                Value::Number(1),
+            ),
             Key::MaxOutstandingR2T => entry(
                 b"MaxOutstandingR2T",
-                least(1, 65535, 1),
+                Rule::Least(limits(1, 65535, 1)),
                 Value::Number(1),
             ),
             Key::DefaultTime2Wait => entry(
                 b"DefaultTime2Wait",
-                greatest(0, 3600, 2),
+                Rule::Greatest(limits(0, 3600, 2)),
                 Value::Number(2),
             ),
             Key::DefaultTime2Retain => entry(
                 b"DefaultTime2Retain",
-                least(0, 3600, 0),
+                Rule::Least(limits(0, 3600, 0)),
                 Value::Number(20),
             ),
             Key::DataPDUInOrder => entry(b"DataPDUInOrder", Rule::Either(true), YES),
             Key::DataSequenceInOrder => entry(b"DataSequenceInOrder", Rule::Either(true), YES),
             Key::ErrorRecoveryLevel => entry(
                 b"ErrorRecoveryLevel",
-                least(0, 2, 0),
+                Rule::Least(limits(0, 2, 0)),
                 Value::Number(0),
             ),
             Key::TaskReporting => entry(

@@ -10,12 +10,10 @@ use crate::key::Key;
 use crate::status::{FULL_FEATURE, LoginFlags, OPERATIONAL, SECURITY, SessionType};
 use crate::text::{MOST_PAIRS, count_of_pairs, first_pair, found};
 use crate::value::is_listed;
+use scsi_types::LONGEST_NAME;
 
 /// The most bytes of text of a negotiation.
 pub const MOST_BYTES: usize = 8192;
-
-/// The most bytes of a name (RFC 7143, 4.2.7.1).
-const LONGEST_NAME: usize = 223;
 
 /// Whether T comes with C, or CSG is not the current stage, or T asks for a transition that there is not (RFC 7143, 11.12.1 to 11.12.3).
 /// Before the first request there is no current stage.
