@@ -1,5 +1,6 @@
 -- A BHS says one header.
-use Rattle.std.proofs.Common.{◌≡◌, ℕ, List, nat_eq, sym, ap, ◌∙◌, arith, inl, inr}
+use Rattle.std.proofs.Common.{◌≡◌, ℕ, List, nat_eq, sym, ◌∙◌, arith}
+use Rattle.std.proofs.lemmas.Bool.Decides.{nat_tests}
 use Rattle.std.specs.Prelude.{if◌then◌else◌}
 use Rattle.iscsi_pdu.specs.Headers.{InitiatorHeader, NopOut, ScsiCommand, TaskManagementRequest, LoginRequest}
 use Rattle.iscsi_pdu.specs.Headers.{TextRequest, DataOut, LogoutRequest, TargetHeader, NopIn, ScsiResponse}
@@ -24,25 +25,13 @@ initiator_by op b =
     LogoutRequest (logout_request_at b)))))))
 
 initiator-is : (b : List ℕ) (h : InitiatorHeader) → HasInitiatorFields b h → h ≡ initiator_by (opcode_of b) b
-initiator-is b (NopOut p) (o, e) = ap NopOut e ∙ ap (λ (n : ℕ). initiator_by n b) (sym o)
-initiator-is b (ScsiCommand p) (o, e) = ap ScsiCommand e ∙ ap (λ (n : ℕ). initiator_by n b) (sym o)
-initiator-is b (TaskManagementRequest p) (o, e) = ap TaskManagementRequest e ∙ ap (λ (n : ℕ). initiator_by n b) (sym o)
-initiator-is b (LoginRequest p) (o, e) = ap LoginRequest e ∙ ap (λ (n : ℕ). initiator_by n b) (sym o)
-initiator-is b (TextRequest p) (o, e) = ap TextRequest e ∙ ap (λ (n : ℕ). initiator_by n b) (sym o)
-initiator-is b (DataOut p) (o, e) = ap DataOut e ∙ ap (λ (n : ℕ). initiator_by n b) (sym o)
-initiator-is b (LogoutRequest p) (o, e) = ap LogoutRequest e ∙ ap (λ (n : ℕ). initiator_by n b) (sym o)
+initiator-is b h f = grind (arith, nat_tests, f)
 
 pub one-initiator : (b : List ℕ) (h k : InitiatorHeader) → HasInitiatorFields b h → HasInitiatorFields b k → h ≡ k
 one-initiator b h k x y = initiator-is b h x ∙ sym (initiator-is b k y)
 
 pub initiator-opcode : (b : List ℕ) (h : InitiatorHeader) → HasInitiatorFields b h → IsInitiatorOpcode (opcode_of b)
-initiator-opcode b (NopOut p) (o, e) = omega (arith, o)
-initiator-opcode b (ScsiCommand p) (o, e) = omega (arith, o)
-initiator-opcode b (TaskManagementRequest p) (o, e) = omega (arith, o)
-initiator-opcode b (LoginRequest p) (o, e) = omega (arith, o)
-initiator-opcode b (TextRequest p) (o, e) = omega (arith, o)
-initiator-opcode b (DataOut p) (o, e) = omega (arith, o)
-initiator-opcode b (LogoutRequest p) (o, e) = omega (arith, o)
+initiator-opcode b h f = grind (arith, f)
 
 -- the header of a target with this opcode
 abbrev target_by : ℕ → List ℕ → TargetHeader
@@ -58,26 +47,10 @@ target_by op b =
     Reject (reject_at b)))))))))
 
 target-is : (b : List ℕ) (h : TargetHeader) → HasTargetFields b h → h ≡ target_by (opcode_of b) b
-target-is b (NopIn p) (o, e) = ap NopIn e ∙ ap (λ (n : ℕ). target_by n b) (sym o)
-target-is b (ScsiResponse p) (o, e) = ap ScsiResponse e ∙ ap (λ (n : ℕ). target_by n b) (sym o)
-target-is b (TaskManagementResponse p) (o, e) = ap TaskManagementResponse e ∙ ap (λ (n : ℕ). target_by n b) (sym o)
-target-is b (LoginResponse p) (o, e) = ap LoginResponse e ∙ ap (λ (n : ℕ). target_by n b) (sym o)
-target-is b (TextResponse p) (o, e) = ap TextResponse e ∙ ap (λ (n : ℕ). target_by n b) (sym o)
-target-is b (DataIn p) (o, e) = ap DataIn e ∙ ap (λ (n : ℕ). target_by n b) (sym o)
-target-is b (LogoutResponse p) (o, e) = ap LogoutResponse e ∙ ap (λ (n : ℕ). target_by n b) (sym o)
-target-is b (R2t p) (o, e) = ap R2t e ∙ ap (λ (n : ℕ). target_by n b) (sym o)
-target-is b (Reject p) (o, e) = ap Reject e ∙ ap (λ (n : ℕ). target_by n b) (sym o)
+target-is b h f = grind (arith, nat_tests, f)
 
 pub one-target : (b : List ℕ) (h k : TargetHeader) → HasTargetFields b h → HasTargetFields b k → h ≡ k
 one-target b h k x y = target-is b h x ∙ sym (target-is b k y)
 
 pub target-opcode : (b : List ℕ) (h : TargetHeader) → HasTargetFields b h → IsTargetOpcode (opcode_of b)
-target-opcode b (NopIn p) (o, e) = inl (omega (arith, o), omega (arith, o))
-target-opcode b (ScsiResponse p) (o, e) = inl (omega (arith, o), omega (arith, o))
-target-opcode b (TaskManagementResponse p) (o, e) = inl (omega (arith, o), omega (arith, o))
-target-opcode b (LoginResponse p) (o, e) = inl (omega (arith, o), omega (arith, o))
-target-opcode b (TextResponse p) (o, e) = inl (omega (arith, o), omega (arith, o))
-target-opcode b (DataIn p) (o, e) = inl (omega (arith, o), omega (arith, o))
-target-opcode b (LogoutResponse p) (o, e) = inl (omega (arith, o), omega (arith, o))
-target-opcode b (R2t p) (o, e) = inr (inl o)
-target-opcode b (Reject p) (o, e) = inr (inr o)
+target-opcode b h f = grind (arith, f)
