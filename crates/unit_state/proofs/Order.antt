@@ -293,15 +293,12 @@ admitted c session asked bytes command none is =
 
 -- ---- the rules one after the other
 
-pub in_order : (a b c d e f g h : Option Refusal)
-    → option_or (option_or (option_or (option_or (option_or (option_or (option_or a b) c) d) e) f) g) h
-    ≡ option_or a (option_or b (option_or c (option_or d (option_or e (option_or f (option_or g (option_or h None)))))))
-in_order (Some x) b c d e f g h = refl
-in_order None (Some x) c d e f g h = refl
-in_order None None (Some x) d e f g h = refl
-in_order None None None (Some x) e f g h = refl
-in_order None None None None (Some x) f g h = refl
-in_order None None None None None (Some x) g h = refl
-in_order None None None None None None (Some x) h = refl
-in_order None None None None None None None (Some x) = refl
-in_order None None None None None None None None = refl
+pub in_order : (a b c d e own : Option Refusal)
+    → option_or (option_or (option_or (option_or (option_or a b) c) d) e) own
+    ≡ option_or a (option_or b (option_or c (option_or d (option_or e own))))
+in_order (Some x) b c d e own = refl
+in_order None (Some x) c d e own = refl
+in_order None None (Some x) d e own = refl
+in_order None None None (Some x) e own = refl
+in_order None None None None (Some x) own = refl
+in_order None None None None None own = refl

@@ -1,13 +1,13 @@
 //! The rules that refuse a command, in their order.
-ghost use Rattle.std.specs.Prelude.{◌≡◌, ◌+◌, ◌&&◌, ℕ, List, Ok, Some, None, if◌then◌else◌};
+ghost use Rattle.std.specs.Prelude.{◌≡◌, [], ◌∷◌, ℕ, List, Ok, Some, None, if◌then◌else◌};
 ghost use Rattle.std.specs.Prelude.{MatchResult};
-ghost use Rattle.unit_control.specs.Medium.{is_too_long, range_of, work_asked, work_of};
+ghost use Rattle.unit_control.specs.Medium.{is_too_long, work_of};
 ghost use Rattle.unit_control.specs.Ops.{access_of, passes_attention};
 ghost use Rattle.unit_control.specs.Places.{IsPlaceOf};
 ghost use Rattle.unit_control.specs.Groups.{set_by};
-ghost use Rattle.unit_control.specs.Refusal.{access_by, attention_by, conflict_by, field_by, groups_list_by};
-ghost use Rattle.unit_control.specs.Refusal.{is_let, list_by};
-ghost use Rattle.unit_control.specs.Refusal.{asks_saved, is_saved, opcode_by, past_end_by, range_by, refusal, request};
+ghost use Rattle.unit_control.specs.Refusal.{access_by, attention_by, conflict_by, field_by, first_refusal, groups_list_by};
+ghost use Rattle.unit_control.specs.Refusal.{is_let, is_saved, list_rule, opcode_by, past_end_by, range_rule, refusal};
+ghost use Rattle.unit_control.specs.Refusal.{request, saved_rule};
 ghost use Rattle.unit_control.specs.Refusal.{reserve_list_by};
 ghost use Rattle.unit_control.specs.Refusal.{state_for};
 ghost use Rattle.scsi_types.specs.Sense.{saving_parameters_not_supported};
@@ -53,9 +53,7 @@ fn first_refusal(control: &Control, sender: Sender, asked: &Asked, bytes: &[u8])
         .or(access(control, sender, kind))
         .or(conflict(control, sender, kind))
         .or(field(asked, bytes))
-        .or(saved(asked))
-        .or(range(asked, control.total()))
-        .or(list(control, asked, bytes))
+        .or(own(control, asked, bytes))
 }
 
 /// An attention is pending, and the command is none that it lets pass (SAM-5, 5.14).
@@ -139,26 +137,32 @@ fn is_too_long(command: &Command) -> bool
     }
 }
 
-/// Saved values of mode pages are asked for: none are saved (SPC-4, 6.13.1).
-fn saved(asked: &Asked) -> Option<Refusal>
-    ensures { result ≡ (if asks_saved asked.now then Some (Refusal.Check saving_parameters_not_supported) else None) }
+/// The last three rules: saved values of mode pages are asked for, the range passes the end, or the parameter list is none that the
+/// command may have. Of these a command can come to one at most.
+fn own(control: &Control, asked: &Asked, bytes: &[u8]) -> Option<Refusal>
+    ensures { (session : ℕ) → result
+        ≡ first_refusal (saved_rule ∷ range_rule ∷ list_rule ∷ []) control.now (request session asked.now bytes.now) }
 {
     match asked {
         Ok(Command::ModeSense { control, .. }) => saved_values(*control),
+        Ok(Command::Read { lba, blocks, .. })
+        | Ok(Command::Write { lba, blocks, .. })
+        | Ok(Command::CompareAndWrite { lba, blocks, .. }) => {
+            past_end(*lba, u32::from(*blocks), control.total())
+        }
+        Ok(Command::SynchronizeCache { lba, blocks }) => past_end(*lba, *blocks, control.total()),
+        Ok(Command::PersistentReserveOut { list_length, .. }) => reserve_list(*list_length),
+        Ok(Command::SetTargetPortGroups { list_length }) => {
+            groups_list(control, *list_length, bytes)
+        }
         Ok(Command::TestUnitReady)
         | Ok(Command::RequestSense { .. })
         | Ok(Command::Inquiry { .. })
         | Ok(Command::ReadCapacity10)
         | Ok(Command::ReadCapacity16 { .. })
-        | Ok(Command::Read { .. })
-        | Ok(Command::Write { .. })
-        | Ok(Command::CompareAndWrite { .. })
-        | Ok(Command::SynchronizeCache { .. })
         | Ok(Command::PersistentReserveIn { .. })
-        | Ok(Command::PersistentReserveOut { .. })
         | Ok(Command::ReportLuns { .. })
         | Ok(Command::ReportTargetPortGroups { .. })
-        | Ok(Command::SetTargetPortGroups { .. })
         | Err(_) => None,
     }
 }
@@ -173,32 +177,6 @@ fn saved_values(control: PageControl) -> Option<Refusal>
     }
 }
 
-/// The range passes the end of a unit of so many blocks.
-fn range(asked: &Asked, total: u32) -> Option<Refusal>
-    ensures { (bytes : List ℕ) → result ≡ range_by total (range_of (work_asked asked.now bytes)) }
-{
-    match asked {
-        Ok(Command::Read { lba, blocks, .. })
-        | Ok(Command::Write { lba, blocks, .. })
-        | Ok(Command::CompareAndWrite { lba, blocks, .. }) => {
-            past_end(*lba, u32::from(*blocks), total)
-        }
-        Ok(Command::SynchronizeCache { lba, blocks }) => past_end(*lba, *blocks, total),
-        Ok(Command::TestUnitReady)
-        | Ok(Command::RequestSense { .. })
-        | Ok(Command::Inquiry { .. })
-        | Ok(Command::ModeSense { .. })
-        | Ok(Command::ReadCapacity10)
-        | Ok(Command::ReadCapacity16 { .. })
-        | Ok(Command::PersistentReserveIn { .. })
-        | Ok(Command::PersistentReserveOut { .. })
-        | Ok(Command::ReportLuns { .. })
-        | Ok(Command::ReportTargetPortGroups { .. })
-        | Ok(Command::SetTargetPortGroups { .. })
-        | Err(_) => None,
-    }
-}
-
 /// The LBA or the range passes the end, the LBA of an empty range too (SBC-3, READ (10) command).
 fn past_end(lba: u64, blocks: u32, total: u32) -> Option<Refusal>
     ensures { result ≡ past_end_by total (record { lba = lba; blocks = blocks }) }
@@ -207,32 +185,6 @@ fn past_end(lba: u64, blocks: u32, total: u32) -> Option<Refusal>
         return None;
     }
     Some(Refusal::Check(Sense::LBA_OUT_OF_RANGE))
-}
-
-/// The parameter list is none that the command may have.
-fn list(control: &Control, asked: &Asked, bytes: &[u8]) -> Option<Refusal>
-    ensures { result ≡ list_by control.now asked.now bytes.now }
-{
-    match asked {
-        Ok(Command::PersistentReserveOut { list_length, .. }) => reserve_list(*list_length),
-        Ok(Command::SetTargetPortGroups { list_length }) => {
-            groups_list(control, *list_length, bytes)
-        }
-        Ok(Command::TestUnitReady)
-        | Ok(Command::RequestSense { .. })
-        | Ok(Command::Inquiry { .. })
-        | Ok(Command::ModeSense { .. })
-        | Ok(Command::ReadCapacity10)
-        | Ok(Command::ReadCapacity16 { .. })
-        | Ok(Command::Read { .. })
-        | Ok(Command::Write { .. })
-        | Ok(Command::CompareAndWrite { .. })
-        | Ok(Command::SynchronizeCache { .. })
-        | Ok(Command::PersistentReserveIn { .. })
-        | Ok(Command::ReportLuns { .. })
-        | Ok(Command::ReportTargetPortGroups { .. })
-        | Err(_) => None,
-    }
 }
 
 /// A PERSISTENT RESERVE OUT with a parameter list of another length.

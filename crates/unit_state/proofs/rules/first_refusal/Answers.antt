@@ -1,5 +1,4 @@
-use Rattle.unit_control.specs.Refusal.{Request, request, attention_rule, opcode_rule, access_rule}
-use Rattle.unit_control.specs.Refusal.{conflict_rule, field_rule, saved_rule, range_rule, list_rule}
+use Rattle.unit_control.specs.Refusal.{Request, request, attention_rule, opcode_rule, access_rule, conflict_rule, field_rule}
 use Rattle.unit_state.proofs.Order.{in_order}
 use Rattle.unit_state.proofs.rules.first_refusal.Goals as goal
 
@@ -7,11 +6,8 @@ pub returns : goal.returns
 returns c =
     let r : Request = request c.args.sender.session c.args.asked.now c.args.bytes.now in
     let kind = c.kind_asked-kind.ensures in
-    let range = c.range.ensures c.args.bytes.now in
     let of = c.args.control.now in
     rw (
-      c.or-7.ensures,
-      c.or-6.ensures,
       c.or-5.ensures,
       c.or-4.ensures,
       c.or-3.ensures,
@@ -22,11 +18,7 @@ returns c =
       c.access.ensures,
       c.conflict.ensures,
       c.field.ensures,
-      c.saved.ensures,
-      range,
-      c.list.ensures,
+      c.own.ensures c.args.sender.session,
       kind,
-      c.total.ensures,
     )
-    (in_order (attention_rule of r) (opcode_rule of r) (access_rule of r) (conflict_rule of r) (field_rule of r)
-    (saved_rule of r) (range_rule of r) (list_rule of r))
+    (in_order (attention_rule of r) (opcode_rule of r) (access_rule of r) (conflict_rule of r) (field_rule of r) _)
