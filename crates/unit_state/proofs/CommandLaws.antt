@@ -4,6 +4,7 @@ use Rattle.std.proofs.Common.{Some, None, Result, Ok, Err, refl, sym, ap, if◌t
 use Rattle.std.proofs.lemmas.Bool.Decides.{eqb_tells}
 use Rattle.access_states.specs.AccessMap.{AccessMapValue}
 use Rattle.access_states.specs.declared.list.AsetFault.{AsetFault}
+use Rattle.registrants.specs.Registry.{RecordValue, RegistryValue}
 use Rattle.reservations.specs.Notice.{Told}
 use Rattle.reservations.specs.Table.{Effect, Done, Conflicting, Refused}
 use Rattle.scsi_types.specs.declared.names.Group.{Group}
@@ -13,12 +14,13 @@ use Rattle.scsi_types.specs.declared.command.CdbFault.{CdbFault}
 use Rattle.unit_control.specs.declared.refusal.Refusal.{Refusal}
 use Rattle.unit_control.specs.declared.refusal.Refusal.TheVariants.{Attention, Conflict, Check}
 use Rattle.unit_control.specs.declared.sessions.Attached.{Attached}
-use Rattle.unit_control.specs.State.{ControlValue}
+use Rattle.unit_control.specs.State.{ControlValue, tell}
 use Rattle.unit_control.specs.Choice.{Choice, Fine, ReadFailed, WriteFailed, OpenFailed, SaveFailed}
-use Rattle.unit_control.specs.Groups.{after_change, change_heard, hear_change, is_any_changed, set_by}
+use Rattle.unit_control.specs.Groups.{after_change, change_heard, hear_change, is_any_changed, set_by, with_access}
 use Rattle.unit_control.proofs.GroupsLaws.{change_keeps}
 use Rattle.unit_control.specs.Refusal.{Request, request, refusal}
 use Rattle.unit_control.specs.Reserve.{all_heard, after_effect, after_saved, effect_by, hear, pr_out}
+use Rattle.unit_control.specs.Saving.{with_doubt}
 use Rattle.unit_control.specs.Sessions.{next_of, command_counted, told}
 use Rattle.unit_control.specs.Entry.{Command, IsNext, control_with, control_after, left_asked, left_groups}
 
@@ -82,62 +84,85 @@ serials_changed : (is : Bool) (by_session : Option ℕ) (sessions : List Attache
 serials_changed true by_session sessions = serials_mapped (hear_change by_session) (change_keeps by_session) sessions
 serials_changed false by_session sessions = refl
 
+-- ---- what stays through every command
+
+-- It stays where a session is told, where a registry or access states are put in force, and where a save fails.
+record Stays {T : Type 0} (of : ControlValue → T) (c : ControlValue) : Type 0 where
+  told : (session : ℕ) → of (tell c session) ≡ of c
+  in_force : (new : RegistryValue) (codes : List Told) → of (after_effect c (Done new codes)) ≡ of c
+  changed : (by_session : Option ℕ) (new : AccessMapValue) → of (with_access c by_session new) ≡ of c
+  doubted : (after : List RecordValue) → of (with_doubt c after) ≡ of c
+
+module _ {T : Type 0} (of : ControlValue → T) (c : ControlValue) (stays : Stays of c) where
+  stays_changed : (by_session : Option ℕ) (r : Result AccessMapValue AsetFault) → of (after_change c by_session r) ≡ of c
+  stays_changed by_session (Ok new) = stays.changed by_session new
+  stays_changed by_session (Err fault) = refl
+
+  stays_groups : (session list_length : ℕ) (bytes : List ℕ) (choice : Choice)
+      → of (left_groups c session list_length bytes choice) ≡ of c
+  stays_groups session list_length bytes OpenFailed = refl
+  stays_groups session list_length bytes Fine = stays_changed (Some session) (set_by c list_length bytes)
+  stays_groups session list_length bytes ReadFailed = stays_changed (Some session) (set_by c list_length bytes)
+  stays_groups session list_length bytes (WriteFailed after) = stays_changed (Some session) (set_by c list_length bytes)
+  stays_groups session list_length bytes (SaveFailed after) = stays_changed (Some session) (set_by c list_length bytes)
+
+  stays_in_effect : (e : Effect) → of (after_effect c e) ≡ of c
+  stays_in_effect (Done new codes) = stays.in_force new codes
+  stays_in_effect Conflicting = refl
+  stays_in_effect (Refused asc ascq) = refl
+
+  stays_saved : (e : Effect) (choice : Choice) → of (after_saved c e choice) ≡ of c
+  stays_saved e Fine = stays_in_effect e
+  stays_saved e ReadFailed = stays_in_effect e
+  stays_saved e (WriteFailed after) = stays_in_effect e
+  stays_saved e OpenFailed = stays_in_effect e
+  stays_saved e (SaveFailed after) = stays.doubted after
+
+  stays_left : (session : ℕ) (asked : Result ScsiCommand CdbFault) (bytes : List ℕ) (choice : Choice)
+      → of (left_asked c session asked bytes choice) ≡ of c
+  stays_left session (Err fault) bytes choice = refl
+  stays_left session (Ok (commands.RequestSense allocation)) bytes choice = stays.told session
+  stays_left session (Ok (commands.PersistentReserveOut action scope kind list_length)) bytes choice =
+      stays_saved (effect_by c session (pr_out action scope kind bytes)) choice
+  stays_left session (Ok commands.TestUnitReady) bytes choice = refl
+  stays_left session (Ok (commands.Inquiry page allocation)) bytes choice = refl
+  stays_left session (Ok (commands.ModeSense header control page allocation)) bytes choice = refl
+  stays_left session (Ok commands.ReadCapacity10) bytes choice = refl
+  stays_left session (Ok (commands.ReadCapacity16 allocation)) bytes choice = refl
+  stays_left session (Ok (commands.Read lba blocks fua)) bytes choice = refl
+  stays_left session (Ok (commands.Write lba blocks fua)) bytes choice = refl
+  stays_left session (Ok (commands.CompareAndWrite lba blocks fua)) bytes choice = refl
+  stays_left session (Ok (commands.SynchronizeCache lba blocks)) bytes choice = refl
+  stays_left session (Ok (commands.PersistentReserveIn action allocation)) bytes choice = refl
+  stays_left session (Ok (commands.ReportLuns select allocation)) bytes choice = refl
+  stays_left session (Ok (commands.ReportTargetPortGroups allocation)) bytes choice = refl
+  stays_left session (Ok (commands.SetTargetPortGroups list_length)) bytes choice =
+      stays_groups session list_length bytes choice
+
+  -- what a command leaves before it is counted
+  stays_with : (refused : Option Refusal) (r : Request) (choice : Choice) → of (control_with refused c r choice) ≡ of c
+  stays_with (Some (Attention a)) r choice = stays.told r.session
+  stays_with (Some Conflict) r choice = refl
+  stays_with (Some (Check s)) r choice = refl
+  stays_with None r choice = stays_left r.session r.asked r.bytes choice
+
+-- all ids and serials stay
+serials_stay : (c : ControlValue) → Stays (λ (d : ControlValue). serials d.sessions) c
+serials_stay c = record {
+  told = λ session. serials_told c.sessions session;
+  in_force = λ new codes. serials_heard codes c.sessions;
+  changed = λ by_session new. serials_changed (is_any_changed c.access new) by_session c.sessions;
+  doubted = λ after. refl;
+}
+
 pub serials_after_change : (c : ControlValue) (by_session : Option ℕ) (r : Result AccessMapValue AsetFault)
     → serials (after_change c by_session r).sessions ≡ serials c.sessions
-serials_after_change c by_session (Ok new) = serials_changed (is_any_changed c.access new) by_session c.sessions
-serials_after_change c by_session (Err fault) = refl
+serials_after_change c by_session r =
+    stays_changed (λ (d : ControlValue). serials d.sessions) c (serials_stay c) by_session r
 
-serials_groups : (c : ControlValue) (session list_length : ℕ) (bytes : List ℕ) (choice : Choice)
-    → serials (left_groups c session list_length bytes choice).sessions ≡ serials c.sessions
-serials_groups c session list_length bytes OpenFailed = refl
-serials_groups c session list_length bytes Fine = serials_after_change c (Some session) (set_by c list_length bytes)
-serials_groups c session list_length bytes ReadFailed = serials_after_change c (Some session) (set_by c list_length bytes)
-serials_groups c session list_length bytes (WriteFailed after) =
-    serials_after_change c (Some session) (set_by c list_length bytes)
-serials_groups c session list_length bytes (SaveFailed after) =
-    serials_after_change c (Some session) (set_by c list_length bytes)
-
-serials_after_effect : (c : ControlValue) (e : Effect) → serials (after_effect c e).sessions ≡ serials c.sessions
-serials_after_effect c (Done new codes) = serials_heard codes c.sessions
-serials_after_effect c Conflicting = refl
-serials_after_effect c (Refused asc ascq) = refl
-
-serials_saved : (c : ControlValue) (e : Effect) (choice : Choice)
-    → serials (after_saved c e choice).sessions ≡ serials c.sessions
-serials_saved c e Fine = serials_after_effect c e
-serials_saved c e ReadFailed = serials_after_effect c e
-serials_saved c e (WriteFailed after) = serials_after_effect c e
-serials_saved c e OpenFailed = serials_after_effect c e
-serials_saved c e (SaveFailed after) = refl
-
-serials_left : (c : ControlValue) (session : ℕ) (asked : Result ScsiCommand CdbFault) (bytes : List ℕ) (choice : Choice)
-    → serials (left_asked c session asked bytes choice).sessions ≡ serials c.sessions
-serials_left c session (Err fault) bytes choice = refl
-serials_left c session (Ok (commands.RequestSense allocation)) bytes choice = serials_told c.sessions session
-serials_left c session (Ok (commands.PersistentReserveOut action scope kind list_length)) bytes choice =
-    serials_saved c (effect_by c session (pr_out action scope kind bytes)) choice
-serials_left c session (Ok commands.TestUnitReady) bytes choice = refl
-serials_left c session (Ok (commands.Inquiry page allocation)) bytes choice = refl
-serials_left c session (Ok (commands.ModeSense header control page allocation)) bytes choice = refl
-serials_left c session (Ok commands.ReadCapacity10) bytes choice = refl
-serials_left c session (Ok (commands.ReadCapacity16 allocation)) bytes choice = refl
-serials_left c session (Ok (commands.Read lba blocks fua)) bytes choice = refl
-serials_left c session (Ok (commands.Write lba blocks fua)) bytes choice = refl
-serials_left c session (Ok (commands.CompareAndWrite lba blocks fua)) bytes choice = refl
-serials_left c session (Ok (commands.SynchronizeCache lba blocks)) bytes choice = refl
-serials_left c session (Ok (commands.PersistentReserveIn action allocation)) bytes choice = refl
-serials_left c session (Ok (commands.ReportLuns select allocation)) bytes choice = refl
-serials_left c session (Ok (commands.ReportTargetPortGroups allocation)) bytes choice = refl
-serials_left c session (Ok (commands.SetTargetPortGroups list_length)) bytes choice =
-    serials_groups c session list_length bytes choice
-
--- what a command leaves before it is counted has all ids and serials still
 pub serials_kept : (refused : Option Refusal) (c : ControlValue) (r : Request) (choice : Choice)
     → serials (control_with refused c r choice).sessions ≡ serials c.sessions
-serials_kept (Some (Attention a)) c r choice = serials_told c.sessions r.session
-serials_kept (Some Conflict) c r choice = refl
-serials_kept (Some (Check s)) c r choice = refl
-serials_kept None c r choice = serials_left c r.session r.asked r.bytes choice
+serials_kept refused c r choice = stays_with (λ (d : ControlValue). serials d.sessions) c (serials_stay c) refused r choice
 
 pub next_kept : (refused : Option Refusal) (c : ControlValue) (r : Request) (choice : Choice)
     → next_of (control_with refused c r choice).sessions r.session ≡ next_of c.sessions r.session
@@ -147,60 +172,21 @@ next_kept refused c r choice =
     ∙ sym (next_in c.sessions r.session)
 
 -- and the count of entries
-count_after_effect : (c : ControlValue) (e : Effect) → (after_effect c e).count ≡ c.count
-count_after_effect c (Done new codes) = refl
-count_after_effect c Conflicting = refl
-count_after_effect c (Refused asc ascq) = refl
+count_stays : (c : ControlValue) → Stays (λ (d : ControlValue). d.count) c
+count_stays c = record {
+  told = λ session. refl;
+  in_force = λ new codes. refl;
+  changed = λ by_session new. refl;
+  doubted = λ after. refl;
+}
 
 pub count_after_change : (c : ControlValue) (by_session : Option ℕ) (r : Result AccessMapValue AsetFault)
     → (after_change c by_session r).count ≡ c.count
-count_after_change c by_session (Ok new) = refl
-count_after_change c by_session (Err fault) = refl
-
-count_groups : (c : ControlValue) (session list_length : ℕ) (bytes : List ℕ) (choice : Choice)
-    → (left_groups c session list_length bytes choice).count ≡ c.count
-count_groups c session list_length bytes OpenFailed = refl
-count_groups c session list_length bytes Fine = count_after_change c (Some session) (set_by c list_length bytes)
-count_groups c session list_length bytes ReadFailed = count_after_change c (Some session) (set_by c list_length bytes)
-count_groups c session list_length bytes (WriteFailed after) =
-    count_after_change c (Some session) (set_by c list_length bytes)
-count_groups c session list_length bytes (SaveFailed after) =
-    count_after_change c (Some session) (set_by c list_length bytes)
-
-count_saved : (c : ControlValue) (e : Effect) (choice : Choice) → (after_saved c e choice).count ≡ c.count
-count_saved c e Fine = count_after_effect c e
-count_saved c e ReadFailed = count_after_effect c e
-count_saved c e (WriteFailed after) = count_after_effect c e
-count_saved c e OpenFailed = count_after_effect c e
-count_saved c e (SaveFailed after) = refl
-
-count_left : (c : ControlValue) (session : ℕ) (asked : Result ScsiCommand CdbFault) (bytes : List ℕ) (choice : Choice)
-    → (left_asked c session asked bytes choice).count ≡ c.count
-count_left c session (Err fault) bytes choice = refl
-count_left c session (Ok (commands.RequestSense allocation)) bytes choice = refl
-count_left c session (Ok (commands.PersistentReserveOut action scope kind list_length)) bytes choice =
-    count_saved c (effect_by c session (pr_out action scope kind bytes)) choice
-count_left c session (Ok commands.TestUnitReady) bytes choice = refl
-count_left c session (Ok (commands.Inquiry page allocation)) bytes choice = refl
-count_left c session (Ok (commands.ModeSense header control page allocation)) bytes choice = refl
-count_left c session (Ok commands.ReadCapacity10) bytes choice = refl
-count_left c session (Ok (commands.ReadCapacity16 allocation)) bytes choice = refl
-count_left c session (Ok (commands.Read lba blocks fua)) bytes choice = refl
-count_left c session (Ok (commands.Write lba blocks fua)) bytes choice = refl
-count_left c session (Ok (commands.CompareAndWrite lba blocks fua)) bytes choice = refl
-count_left c session (Ok (commands.SynchronizeCache lba blocks)) bytes choice = refl
-count_left c session (Ok (commands.PersistentReserveIn action allocation)) bytes choice = refl
-count_left c session (Ok (commands.ReportLuns select allocation)) bytes choice = refl
-count_left c session (Ok (commands.ReportTargetPortGroups allocation)) bytes choice = refl
-count_left c session (Ok (commands.SetTargetPortGroups list_length)) bytes choice =
-    count_groups c session list_length bytes choice
+count_after_change c by_session r = stays_changed (λ (d : ControlValue). d.count) c (count_stays c) by_session r
 
 pub kept_count : (refused : Option Refusal) (c : ControlValue) (r : Request) (choice : Choice)
     → (control_with refused c r choice).count ≡ c.count
-kept_count (Some (Attention a)) c r choice = refl
-kept_count (Some Conflict) c r choice = refl
-kept_count (Some (Check s)) c r choice = refl
-kept_count None c r choice = count_left c r.session r.asked r.bytes choice
+kept_count refused c r choice = stays_with (λ (d : ControlValue). d.count) c (count_stays c) refused r choice
 
 module _ (c : ControlValue) (session serial : ℕ) (by_group : Group) (asked : Result ScsiCommand CdbFault)
     (bytes : List ℕ) (choice : Choice) where
