@@ -26,23 +26,14 @@ use Rattle.event_log.specs.declared.event.By.TheVariants.{Console, Session}
 use Rattle.event_log.specs.declared.event.Event.{Event}
 use Rattle.event_log.specs.declared.event.Event.TheVariants as events
 use Rattle.event_log.specs.declared.words.SessionType.{SessionType}
-use Rattle.event_log.specs.declared.words.SessionType.TheVariants as session_types
 use Rattle.event_log.specs.declared.words.Stayed.{Stayed}
-use Rattle.event_log.specs.declared.words.Stayed.TheVariants as stayeds
 use Rattle.event_log.specs.declared.words.Access.{Access}
-use Rattle.event_log.specs.declared.words.Access.TheVariants as accesses
 use Rattle.event_log.specs.declared.words.Action.{Action}
-use Rattle.event_log.specs.declared.words.Action.TheVariants as actions
 use Rattle.event_log.specs.declared.words.Operation.{Operation}
-use Rattle.event_log.specs.declared.words.Operation.TheVariants as operations
 use Rattle.event_log.specs.declared.words.Part.{Part}
-use Rattle.event_log.specs.declared.words.Part.TheVariants as parts
 use Rattle.event_log.specs.declared.words.Call.{Call}
-use Rattle.event_log.specs.declared.words.Call.TheVariants as calls
 use Rattle.event_log.specs.declared.words.Resource.{Resource}
-use Rattle.event_log.specs.declared.words.Resource.TheVariants as resources
 use Rattle.event_log.specs.declared.words.Unusable.{Unusable}
-use Rattle.event_log.specs.declared.words.Unusable.TheVariants as unusables
 
 pub both : (a b : Bool) → a ≡ true → b ≡ true → (a && b) ≡ true
 both true b pa pb = pb
@@ -141,70 +132,31 @@ quoted_plain bytes = join (flat_map escaped bytes) (34 ∷ []) (many bytes) refl
 -- ---- words
 
 session_type_plain : (x : SessionType) → are_plain (session_type_text x) ≡ true
-session_type_plain session_types.Normal = refl
-session_type_plain session_types.Discovery = refl
+session_type_plain x = grind (arith, nat_tests)
 
 stayed_plain : (x : Stayed) → are_plain (stayed_text x) ≡ true
-stayed_plain stayeds.NotOpened = refl
-stayed_plain stayeds.BadList = refl
-stayed_plain stayeds.Gone = refl
+stayed_plain x = grind (arith, nat_tests)
 
 access_plain : (x : Access) → are_plain (access_text x) ≡ true
-access_plain accesses.Optimized = refl
-access_plain accesses.NonOptimized = refl
-access_plain accesses.Standby = refl
-access_plain accesses.Unavailable = refl
-access_plain accesses.Unnamed = refl
+access_plain x = grind (arith, nat_tests)
 
 action_plain : (x : Action) → are_plain (action_text x) ≡ true
-action_plain actions.Register = refl
-action_plain actions.Reserve = refl
-action_plain actions.Release = refl
-action_plain actions.Clear = refl
-action_plain actions.Preempt = refl
-action_plain actions.PreemptAndAbort = refl
-action_plain actions.RegisterAndIgnore = refl
+action_plain x = grind (arith, nat_tests)
 
 operation_plain : (x : Operation) → are_plain (operation_text x) ≡ true
-operation_plain operations.Read = refl
-operation_plain operations.Write = refl
-operation_plain operations.CompareAndWrite = refl
-operation_plain operations.SynchronizeCache = refl
-operation_plain operations.ReserveOut = refl
-operation_plain operations.SetGroups = refl
-operation_plain operations.Other = refl
+operation_plain x = grind (arith, nat_tests)
 
 part_plain : (x : Part) → are_plain (part_text x) ≡ true
-part_plain parts.Disk = refl
-part_plain parts.Registrations = refl
+part_plain x = grind (arith, nat_tests)
 
 call_plain : (x : Call) → are_plain (call_text x) ≡ true
-call_plain calls.Open = refl
-call_plain calls.Seek = refl
-call_plain calls.Read = refl
-call_plain calls.Write = refl
-call_plain calls.Flush = refl
+call_plain x = grind (arith, nat_tests)
 
 resource_plain : (x : Resource) → are_plain (resource_text x) ≡ true
-resource_plain resources.Memory = refl
-resource_plain resources.Thread = refl
-resource_plain resources.Descriptor = refl
-resource_plain resources.Connection = refl
+resource_plain x = grind (arith, nat_tests)
 
 unusable_plain : (x : Unusable) → are_plain (unusable_text x) ≡ true
-unusable_plain unusables.NotThere = refl
-unusable_plain unusables.NotOpened = refl
-unusable_plain unusables.Length = refl
-unusable_plain unusables.Empty = refl
-unusable_plain unusables.TooLong = refl
-unusable_plain unusables.InUse = refl
-unusable_plain unusables.NotLocked = refl
-unusable_plain unusables.NotMade = refl
-unusable_plain unusables.NotARegistrationFile = refl
-unusable_plain unusables.Version = refl
-unusable_plain unusables.Failed = refl
-unusable_plain unusables.Forgotten = refl
-unusable_plain unusables.NoMemory = refl
+unusable_plain x = grind (arith, nat_tests)
 
 abbrev texts : List (ℕ × List ℕ) → Bool
 texts rows = list_all (λ row. are_plain row.1) rows
