@@ -1,5 +1,6 @@
 -- A CDB asks for one thing.
-use Rattle.std.proofs.Common.{◌≡◌, ℕ, ◌==◌, if◌then◌else◌, List, get_or, Result, Ok, Err, refl, sym, ap, ◌∙◌}
+use Rattle.std.proofs.Common.{◌≡◌, ℕ, ◌==◌, if◌then◌else◌, List, get_or, Result, Ok, Err, refl, sym, ap, ◌∙◌, arith}
+use Rattle.std.proofs.lemmas.Bool.Decides.{nat_tests}
 use Rattle.scsi_types.specs.declared.form.CdbForm.{CdbForm}
 use Rattle.scsi_types.specs.declared.form.CdbForm.TheVariants as forms
 use Rattle.scsi_types.specs.declared.command.Command.{Command}
@@ -39,27 +40,7 @@ form_at n =
 
 form-is : (cdb : List ℕ) (form : CdbForm) → HasForm cdb form → form_at (get_or cdb 0 0) ≡ form
 unfolding form_at
-form-is cdb forms.TestUnitReady h = ap form_at h
-form-is cdb forms.RequestSense h = ap form_at h
-form-is cdb forms.Read6 h = ap form_at h
-form-is cdb forms.Write6 h = ap form_at h
-form-is cdb forms.Inquiry h = ap form_at h
-form-is cdb forms.ModeSense6 h = ap form_at h
-form-is cdb forms.ReadCapacity10 h = ap form_at h
-form-is cdb forms.Read10 h = ap form_at h
-form-is cdb forms.Write10 h = ap form_at h
-form-is cdb forms.SynchronizeCache10 h = ap form_at h
-form-is cdb forms.ModeSense10 h = ap form_at h
-form-is cdb forms.PersistentReserveIn h = ap form_at h
-form-is cdb forms.PersistentReserveOut h = ap form_at h
-form-is cdb forms.Read16 h = ap form_at h
-form-is cdb forms.CompareAndWrite h = ap form_at h
-form-is cdb forms.Write16 h = ap form_at h
-form-is cdb forms.SynchronizeCache16 h = ap form_at h
-form-is cdb forms.ReadCapacity16 h = ap form_at h.opcode_is
-form-is cdb forms.ReportLuns h = ap form_at h
-form-is cdb forms.ReportTargetPortGroups h = ap form_at h.opcode_is
-form-is cdb forms.SetTargetPortGroups h = ap form_at h.opcode_is
+form-is cdb form h = grind (arith, nat_tests, h)
 
 -- a CDB has one form
 pub one_form : (cdb : List ℕ) (a b : CdbForm) → HasForm cdb a → HasForm cdb b → a ≡ b
@@ -74,11 +55,7 @@ inquiry_at evpd code =
 
 inquiry-is : (evpd code : ℕ) (page : InquiryPage) → IsInquiryPage evpd code page → inquiry_at evpd code ≡ page
 unfolding inquiry_at
-inquiry-is evpd code inquiry.Standard h = rw h.0 refl
-inquiry-is evpd code inquiry.SupportedPages h = rw (h.0, h.1) refl
-inquiry-is evpd code inquiry.UnitSerialNumber h = rw (h.0, h.1) refl
-inquiry-is evpd code inquiry.DeviceIdentification h = rw (h.0, h.1) refl
-inquiry-is evpd code inquiry.BlockLimits h = rw (h.0, h.1) refl
+inquiry-is evpd code page h = grind (arith, nat_tests, h)
 
 control_at : ℕ → PageControl
 control_at n =
@@ -87,28 +64,21 @@ control_at n =
 
 control-is : (control : PageControl) → control_at (control_code control) ≡ control
 unfolding control_at
-control-is controls.Current = refl
-control-is controls.Changeable = refl
-control-is controls.Default = refl
-control-is controls.Saved = refl
+control-is control = grind (arith, nat_tests)
 
 mode_at : ℕ → ModePage
 mode_at n = if n == 0x08 then modes.Caching else if n == 0x0A then modes.Control else modes.All
 
 mode-is : (page : ModePage) → mode_at (mode_page_code page) ≡ page
 unfolding mode_at
-mode-is modes.Caching = refl
-mode-is modes.Control = refl
-mode-is modes.All = refl
+mode-is page = grind (arith, nat_tests)
 
 select_at : ℕ → LunSelect
 select_at n = if n == 0 then selects.Units else if n == 1 then selects.WellKnown else selects.All
 
 select-is : (select : LunSelect) → select_at (select_code select) ≡ select
 unfolding select_at
-select-is selects.Units = refl
-select-is selects.WellKnown = refl
-select-is selects.All = refl
+select-is select = grind (arith, nat_tests)
 
 one_sense : (header : ModeHeader) (n : ℕ) (cdb : List ℕ) (c d : Command)
     → SensesMode header n cdb c → SensesMode header n cdb d → c ≡ d
@@ -127,10 +97,7 @@ in_at n =
 
 in-is : (action : PrInAction) → in_at (in_code action) ≡ action
 unfolding in_at
-in-is ins.ReadKeys = refl
-in-is ins.ReadReservation = refl
-in-is ins.ReportCapabilities = refl
-in-is ins.ReadFullStatus = refl
+in-is action = grind (arith, nat_tests)
 
 out_at : ℕ → PrOutAction
 out_at n =
@@ -140,13 +107,7 @@ out_at n =
 
 out-is : (action : PrOutAction) → out_at (out_code action) ≡ action
 unfolding out_at
-out-is outs.Register = refl
-out-is outs.Reserve = refl
-out-is outs.Release = refl
-out-is outs.Clear = refl
-out-is outs.Preempt = refl
-out-is outs.PreemptAndAbort = refl
-out-is outs.RegisterAndIgnoreExistingKey = refl
+out-is action = grind (arith, nat_tests)
 
 -- a CDB of a form asks for one command
 one_command : (form : CdbForm) (cdb : List ℕ) (c d : Command) → Asks form cdb c → Asks form cdb d → c ≡ d
