@@ -103,21 +103,21 @@ module _ {E S : Type 0} (own command : ℕ → E → ℕ) (legal : S → List E 
       (at_set views by j w u ej))
       (at_set views by i w v ei)
 
-  -- one view changes, at the same log
+  -- other views, at the same log
+  with_views : (words : List ℕ) (views new : List V) (k : K words views)
+      → ((j : ℕ) (u : V) → get_elem? new j ≡ some u → F k.seat k.from k.log j u) → Once new → K words new
+  with_views words views new k fits once =
+      record { seat = k.seat; from = k.from; log = k.log; words_are = k.words_are; is_legal = k.is_legal; later = k.later; fits = fits; once = once }
+
+  -- one view changes
   same_log : (words : List ℕ) (views : List V) (k : K words views) (by : ℕ) (w : V) → F k.seat k.from k.log by w → Claims views by w → K words (set views by w)
-  same_log words views k by w fit apart = record {
-    seat = k.seat;
-    from = k.from;
-    log = k.log;
-    words_are = k.words_are;
-    is_legal = k.is_legal;
-    later = k.later;
-    fits = λ j u e. ⊎_elim
-        (λ (x : (j ≡ by) × (w ≡ u)). subst (λ (y : ℕ × V). F k.seat k.from k.log y.0 y.1) (λ i. (sym x.0 i, x.1 i)) fit)
-        (λ (x : (j ≢ by) × (get_elem? views j ≡ some u)). k.fits j u x.1)
-        (at_set views by j w u e);
-    once = once_set views by w k.once apart;
-  }
+  same_log words views k by w fit apart =
+      with_views words views (set views by w) k
+      (λ j u e. ⊎_elim
+      (λ (x : (j ≡ by) × (w ≡ u)). subst (λ (y : ℕ × V). F k.seat k.from k.log y.0 y.1) (λ i. (sym x.0 i, x.1 i)) fit)
+      (λ (x : (j ≢ by) × (get_elem? views j ≡ some u)). k.fits j u x.1)
+      (at_set views by j w u e))
+      (once_set views by w k.once apart)
 
   -- a reader looks
   pub looks : (by : ℕ) (s : S) (seen : List E) → Turns K by (reader s seen) (λ x. x) (Looked s legal rows_of)
@@ -136,26 +136,20 @@ module _ {E S : Type 0} (own command : ℕ → E → ℕ) (legal : S → List E 
   one_more : (words : List ℕ) (views : List V) (k : K words views) (w : V) → ((j : ℕ) → F k.seat k.from k.log j w)
       → (w.claims ≡ true → (j : ℕ) (u : V) → get_elem? views j ≡ some u → u.claims ≡ true → u.session ≡ w.session → ⊥)
       → K words (views ++ w ∷ [])
-  one_more words views k w fit apart = record {
-    seat = k.seat;
-    from = k.from;
-    log = k.log;
-    words_are = k.words_are;
-    is_legal = k.is_legal;
-    later = k.later;
-    fits = λ j u e. ⊎_elim (λ was. k.fits j u was) (λ (same : w ≡ u). subst (λ (z : V). F k.seat k.from k.log j z) same (fit j)) (at_snoc views w u j e);
-    once = λ i j v u ei ej cv cu s.
-        ⊎_elim
-        (λ (x : get_elem? views i ≡ some v). ⊎_elim
-        (λ (y : get_elem? views j ≡ some u). k.once i j v u x y cv cu s)
-        (λ (y : (j ≡ length views) × (w ≡ u)). absurd (apart (ap (λ (z : V). z.claims) y.1 ∙ cu) i v x cv (s ∙ sym (ap (λ (z : V). z.session) y.1))))
-        (at_end views w u j ej))
-        (λ (x : (i ≡ length views) × (w ≡ v)). ⊎_elim
-        (λ (y : get_elem? views j ≡ some u). absurd (apart (ap (λ (z : V). z.claims) x.1 ∙ cv) j u y cu (sym s ∙ sym (ap (λ (z : V). z.session) x.1))))
-        (λ (y : (j ≡ length views) × (w ≡ u)). x.0 ∙ sym y.0)
-        (at_end views w u j ej))
-        (at_end views w v i ei);
-  }
+  one_more words views k w fit apart =
+      with_views words views (views ++ w ∷ []) k
+      (λ j u e. ⊎_elim (λ was. k.fits j u was) (λ (same : w ≡ u). subst (λ (z : V). F k.seat k.from k.log j z) same (fit j)) (at_snoc views w u j e))
+      (λ i j v u ei ej cv cu s.
+      ⊎_elim
+      (λ (x : get_elem? views i ≡ some v). ⊎_elim
+      (λ (y : get_elem? views j ≡ some u). k.once i j v u x y cv cu s)
+      (λ (y : (j ≡ length views) × (w ≡ u)). absurd (apart (ap (λ (z : V). z.claims) y.1 ∙ cu) i v x cv (s ∙ sym (ap (λ (z : V). z.session) y.1))))
+      (at_end views w u j ej))
+      (λ (x : (i ≡ length views) × (w ≡ v)). ⊎_elim
+      (λ (y : get_elem? views j ≡ some u). absurd (apart (ap (λ (z : V). z.claims) x.1 ∙ cv) j u y cu (sym s ∙ sym (ap (λ (z : V). z.session) x.1))))
+      (λ (y : (j ≡ length views) × (w ≡ u)). x.0 ∙ sym y.0)
+      (at_end views w u j ej))
+      (at_end views w v i ei))
 
   -- a new reader
   forks_reader : (by : ℕ) (v : V) → Forks K by v v (reading v)
@@ -169,7 +163,7 @@ module _ {E S : Type 0} (own command : ℕ → E → ℕ) (legal : S → List E 
 
   -- the right goes out
   forks_right : (by : ℕ) (s : S) (log : List E) (g : Claim) → Forks K by (holder s log g) (bare (holder s log g)) (right_of (holder s log g))
-  unfolding same_log
+  unfolding same_log with_views
   forks_right by s log g words views k at =
       let v = holder s log g in
       let mine = k.fits by v at in
@@ -183,7 +177,7 @@ module _ {E S : Type 0} (own command : ℕ → E → ℕ) (legal : S → List E 
 
   -- the right comes in
   merges_right : (by : ℕ) (s : S) (log : List E) (other : ℕ) (g : Claim) → Merges K by (publisher s log) other (right g) (holding (publisher s log) (right g)) nobody
-  unfolding same_log
+  unfolding same_log with_views
   merges_right by s log other g words views k at apart there =
       let v = publisher s log in
       let u = right g in
