@@ -1,16 +1,12 @@
-use Rattle.std.proofs.Common.{All, List, arith, refl, subst, sym}
+use Rattle.std.proofs.Common.{arith, refl}
 use Rattle.unit_control.proofs.GroupsLaws.{change_keeps}
 use Rattle.unit_control.specs.Groups.{hear_change}
-use Rattle.unit_control.specs.Places.{IsPlaceOf}
-use Rattle.unit_control.specs.Sessions.{HasCountedSerial}
-use Rattle.unit_control.specs.declared.sessions.Attached.{Attached}
 use Rattle.unit_control.proofs.Places.{place_mapped, serials_fit_changed}
 use Rattle.unit_control.proofs.control.Control.set_access.Goals as goal
 
 pub invariant_of-self-then-change-offset0 : goal.invariant_of-self-then-change-offset0
 invariant_of-self-then-change-offset0 c = (
-  subst (λ (ss : List Attached). All (HasCountedSerial c.self.inside.count) ss) (sym c.hear_change_all.ensures.items)
-      (serials_fit_changed c.args.by c.self.inside.sessions.items c.self.inside.count c.self.invariant.0),
+  rw c.hear_change_all.ensures.items (serials_fit_changed c.args.by c.self.inside.sessions.items c.self.inside.count c.self.invariant.0),
   omega (arith, c.hear_change_all.ensures.capacity, c.self.invariant.1),
 )
 
@@ -21,6 +17,5 @@ returns-then-change-offset0-clause-stays c =
       total = refl;
       count = refl;
       place = λ session at place.
-          subst (λ (ss : List Attached). IsPlaceOf ss session at) (sym c.hear_change_all.ensures.items)
-          (place_mapped (hear_change c.args.by) (λ a. (change_keeps c.args.by a).0) _ _ _ place);
+          rw c.hear_change_all.ensures.items (place_mapped (hear_change c.args.by) (λ a. (change_keeps c.args.by a).0) _ _ _ place);
     })

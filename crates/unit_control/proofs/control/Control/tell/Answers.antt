@@ -16,6 +16,5 @@ pub returns-clause-stays : goal.returns-clause-stays
 returns-clause-stays c =
     let place : IsPlaceOf c.self.inside.sessions.items c.args.sender.session c.args.sender.at =
     rw (← c.self.view_is) at c.requires in
-    let is : c.tell_at.new.sessions.items ≡ told c.self.inside.sessions.items c.args.sender.session =
-    changed_at report_first _ _ _ _ place c.tell_at.ensures.told in
+    let is = changed_at report_first _ _ _ _ place c.tell_at.ensures.told in
     rw (← c.self.view_is) (record { total = refl; count = refl; place = place_stays report_first (λ a. refl) _ _ _ _ place is })
