@@ -13,7 +13,7 @@ use Rattle.access_states.specs.declared.state.Cause.{Cause}
 use Rattle.access_states.specs.declared.state.GroupAccess.{GroupAccess}
 use Rattle.access_states.specs.AccessMap.{AccessMapValue, group_access, has_one_owner, owner_of}
 use Rattle.access_states.specs.Change.{access_after, after_named, altered_to, becomes_optimized, next_state, map_after, with_one_owner}
-use Rattle.access_states.specs.Laws.{IsTaken, named_for}
+use Rattle.access_states.specs.Laws.{IsTaken, OwnsBeside, named_for}
 use Rattle.access_states.specs.List.{named_by}
 use Rattle.access_states.specs.State.{is_optimized, same_state}
 
@@ -162,43 +162,37 @@ GivesWay old new g = owner_of old ≡ g → owner_of new ≢ g → (group_access
 abbrev pub IsLeft : AccessMapValue → AccessMapValue → Group → Type 0
 IsLeft old new g = Stays old new g × GivesWay old new g
 
+-- by whether the other becomes active/optimized
+left_by : (old new : AccessMapValue) (g : Group) (other : Bool)
+    → (other ≡ true → (owner_of old ≡ g) × ((group_access new g).state ≡ ActiveNonOptimized) × (owner_of new ≢ g))
+    → (other ≡ false → (group_access new g ≡ group_access old g) × (owner_of old ≡ g → owner_of new ≡ g))
+    → IsLeft old new g
+left_by old new g true lost kept = let l = lost refl in (λ owner. absurd (l.2 (owner l.0)), λ owned other. l.1)
+left_by old new g false lost kept = let k = kept refl in (λ owner. k.0, λ owned other. absurd (other (k.1 owned)))
+
 unnamed_one : (cause : Cause) (old : AccessMapValue) (t : Option AccessState) → IsTrue (has_one_owner old)
     → has_one_owner (map_after cause old (only_two t)) ≡ true
     → IsLeft old (map_after cause old (only_two t)) One
 unnamed_one cause old t was is =
-    let new : AccessMapValue = map_after cause old (only_two t) in
-    elim (becomes_optimized old.two.state t) as (λ b. becomes_optimized old.two.state t ≡ b → IsLeft old new One) [
-      | true ↦ λ e. (
-        λ owner. absurd (grind (arith, common_steps, owner (owned_one old t was e), lost_one cause old t e, is)),
-        λ owned other. lost_one cause old t e,
-      )
-      | false ↦ λ e.
-          let same_access : new.one ≡ old.one =
-          ap (λ b. altered_to cause old.one (or_less old.one.state b)) e ∙ unmoved cause old.one in
-          let as_before = ap (λ (a : GroupAccess). is_optimized a.state) same_access in (
-            λ owner. same_access,
-            λ owned other. absurd (other (grind (arith, common_steps, as_before, owned, was, is))),
-          )
-    ] refl
+    left_by old (map_after cause old (only_two t)) One (becomes_optimized old.two.state t)
+    (λ e. (owned_one old t was e, lost_one cause old t e, λ owner. grind (arith, common_steps, owner, lost_one cause old t e, is)))
+    (λ e.
+    let same_access : (map_after cause old (only_two t)).one ≡ old.one =
+    ap (λ b. altered_to cause old.one (or_less old.one.state b)) e ∙ unmoved cause old.one in
+    let as_before = ap (λ (a : GroupAccess). is_optimized a.state) same_access in
+    (same_access, λ owned. grind (arith, common_steps, as_before, owned, was, is)))
 
 unnamed_two : (cause : Cause) (old : AccessMapValue) (t : Option AccessState) → IsTrue (has_one_owner old)
     → has_one_owner (map_after cause old (only_one t)) ≡ true
     → IsLeft old (map_after cause old (only_one t)) Two
 unnamed_two cause old t was is =
-    let new : AccessMapValue = map_after cause old (only_one t) in
-    elim (becomes_optimized old.one.state t) as (λ b. becomes_optimized old.one.state t ≡ b → IsLeft old new Two) [
-      | true ↦ λ e. (
-        λ owner. absurd (grind (arith, common_steps, owner (owned_two old t was e), lost_two cause old t e, is)),
-        λ owned other. lost_two cause old t e,
-      )
-      | false ↦ λ e.
-          let same_access : new.two ≡ old.two =
-          ap (λ b. altered_to cause old.two (or_less old.two.state b)) e ∙ unmoved cause old.two in
-          let as_before = ap (λ (a : GroupAccess). is_optimized a.state) same_access in (
-            λ owner. same_access,
-            λ owned other. absurd (other (grind (arith, common_steps, as_before, owned, was, is))),
-          )
-    ] refl
+    left_by old (map_after cause old (only_one t)) Two (becomes_optimized old.one.state t)
+    (λ e. (owned_two old t was e, lost_two cause old t e, λ owner. grind (arith, common_steps, owner, lost_two cause old t e, is)))
+    (λ e.
+    let same_access : (map_after cause old (only_one t)).two ≡ old.two =
+    ap (λ b. altered_to cause old.two (or_less old.two.state b)) e ∙ unmoved cause old.two in
+    let as_before = ap (λ (a : GroupAccess). is_optimized a.state) same_access in
+    (same_access, λ owned. grind (arith, common_steps, as_before, owned, was, is)))
 
 pub unnamed : (cause : Cause) (old : AccessMapValue) (named : Named) (g : Group) → IsTrue (has_one_owner old)
     → has_one_owner (map_after cause old named) ≡ true → named_for named g ≡ None
@@ -264,15 +258,13 @@ to_two cause old was =
 
 -- a list that names both groups, one of them active/optimized and the other not, is taken
 pub both_to_one : (cause : Cause) (old : AccessMapValue) (other : AccessState) → is_optimized other ≡ false
-    → IsOkAnd (with_one_owner (map_after cause old (both_named ActiveOptimized other)))
-    (λ m. (owner_of m ≡ One) × (m.two.state ≡ other))
+    → OwnsBeside (with_one_owner (map_after cause old (both_named ActiveOptimized other))) One other
 both_to_one cause old other way =
     one_of_both (map_after cause old (both_named ActiveOptimized other)) other way
     (altered_state cause old.one ActiveOptimized) (altered_state cause old.two other)
 
 pub both_to_two : (cause : Cause) (old : AccessMapValue) (other : AccessState) → is_optimized other ≡ false
-    → IsOkAnd (with_one_owner (map_after cause old (both_named other ActiveOptimized)))
-    (λ m. (owner_of m ≡ Two) × (m.one.state ≡ other))
+    → OwnsBeside (with_one_owner (map_after cause old (both_named other ActiveOptimized))) Two other
 both_to_two cause old other way =
     two_of_both (map_after cause old (both_named other ActiveOptimized)) other way
     (altered_state cause old.one other) (altered_state cause old.two ActiveOptimized)

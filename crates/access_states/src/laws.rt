@@ -12,7 +12,7 @@ ghost use Rattle.access_states.specs.State.{is_served, refusal_in};
 ghost use Rattle.access_states.specs.declared.state.Cause.{Cause};
 ghost use Rattle.access_states.specs.AccessMap.{AccessMapValue, group_access, has_one_owner, opening_access, owner_of};
 ghost use Rattle.access_states.specs.Change.{access_after};
-ghost use Rattle.access_states.specs.Laws.{IsTaken, named_for};
+ghost use Rattle.access_states.specs.Laws.{IsTaken, OwnsBeside, named_for};
 ghost use Rattle.access_states.specs.Report.{report_bytes};
 
 /// Just one group is active/optimized: as a unit opens, and after each list that is taken.
@@ -67,17 +67,13 @@ pub fn a_move_is_always_taken()
     ensures to_two { (cause : Cause) (old : AccessMapValue) → IsTrue (has_one_owner old) →
         IsOkAnd (access_after cause old (0 ∷ 0 ∷ 0 ∷ 0 ∷ 0 ∷ 0 ∷ 0 ∷ 2 ∷ [])) (λ new. owner_of new ≡ Two) }
     ensures one_down { (cause : Cause) (old : AccessMapValue) →
-        IsOkAnd (access_after cause old (0 ∷ 0 ∷ 0 ∷ 0 ∷ 0 ∷ 0 ∷ 0 ∷ 2 ∷ 3 ∷ 0 ∷ 0 ∷ 1 ∷ [])) (λ new.
-        (owner_of new ≡ Two) × (new.one.state ≡ Unavailable)) }
+        OwnsBeside (access_after cause old (0 ∷ 0 ∷ 0 ∷ 0 ∷ 0 ∷ 0 ∷ 0 ∷ 2 ∷ 3 ∷ 0 ∷ 0 ∷ 1 ∷ [])) Two Unavailable }
     ensures two_down { (cause : Cause) (old : AccessMapValue) →
-        IsOkAnd (access_after cause old (0 ∷ 0 ∷ 0 ∷ 0 ∷ 0 ∷ 0 ∷ 0 ∷ 1 ∷ 3 ∷ 0 ∷ 0 ∷ 2 ∷ [])) (λ new.
-        (owner_of new ≡ One) × (new.two.state ≡ Unavailable)) }
+        OwnsBeside (access_after cause old (0 ∷ 0 ∷ 0 ∷ 0 ∷ 0 ∷ 0 ∷ 0 ∷ 1 ∷ 3 ∷ 0 ∷ 0 ∷ 2 ∷ [])) One Unavailable }
     ensures one_up { (cause : Cause) (old : AccessMapValue) →
-        IsOkAnd (access_after cause old (0 ∷ 0 ∷ 0 ∷ 0 ∷ 0 ∷ 0 ∷ 0 ∷ 1 ∷ 1 ∷ 0 ∷ 0 ∷ 2 ∷ [])) (λ new.
-        (owner_of new ≡ One) × (new.two.state ≡ ActiveNonOptimized)) }
+        OwnsBeside (access_after cause old (0 ∷ 0 ∷ 0 ∷ 0 ∷ 0 ∷ 0 ∷ 0 ∷ 1 ∷ 1 ∷ 0 ∷ 0 ∷ 2 ∷ [])) One ActiveNonOptimized }
     ensures two_up { (cause : Cause) (old : AccessMapValue) →
-        IsOkAnd (access_after cause old (0 ∷ 0 ∷ 0 ∷ 0 ∷ 0 ∷ 0 ∷ 0 ∷ 2 ∷ 1 ∷ 0 ∷ 0 ∷ 1 ∷ [])) (λ new.
-        (owner_of new ≡ Two) × (new.one.state ≡ ActiveNonOptimized)) }
+        OwnsBeside (access_after cause old (0 ∷ 0 ∷ 0 ∷ 0 ∷ 0 ∷ 0 ∷ 0 ∷ 2 ∷ 1 ∷ 0 ∷ 0 ∷ 1 ∷ [])) Two ActiveNonOptimized }
 {}
 
 /// What an unavailable group serves, every group serves; REPORT and SET TARGET PORT GROUPS are among it, so that a group
