@@ -87,13 +87,13 @@ serials_changed false by_session sessions = refl
 -- ---- what stays through every command
 
 -- It stays where a session is told, where a registry or access states are put in force, and where a save fails.
-record Stays {T : Type 0} (of : ControlValue → T) (c : ControlValue) : Type 0 where
+record IsUntouched {T : Type 0} (of : ControlValue → T) (c : ControlValue) : Type 0 where
   told : (session : ℕ) → of (tell c session) ≡ of c
   in_force : (new : RegistryValue) (codes : List Told) → of (after_effect c (Done new codes)) ≡ of c
   changed : (by_session : Option ℕ) (new : AccessMapValue) → of (with_access c by_session new) ≡ of c
   doubted : (after : List RecordValue) → of (with_doubt c after) ≡ of c
 
-module _ {T : Type 0} (of : ControlValue → T) (c : ControlValue) (stays : Stays of c) where
+module _ {T : Type 0} (of : ControlValue → T) (c : ControlValue) (stays : IsUntouched of c) where
   stays_changed : (by_session : Option ℕ) (r : Result AccessMapValue AsetFault) → of (after_change c by_session r) ≡ of c
   stays_changed by_session (Ok new) = stays.changed by_session new
   stays_changed by_session (Err fault) = refl
@@ -147,7 +147,7 @@ module _ {T : Type 0} (of : ControlValue → T) (c : ControlValue) (stays : Stay
   stays_with None r choice = stays_left r.session r.asked r.bytes choice
 
 -- all ids and serials stay
-serials_stay : (c : ControlValue) → Stays (λ (d : ControlValue). serials d.sessions) c
+serials_stay : (c : ControlValue) → IsUntouched (λ (d : ControlValue). serials d.sessions) c
 serials_stay c = record {
   told = λ session. serials_told c.sessions session;
   in_force = λ new codes. serials_heard codes c.sessions;
@@ -172,7 +172,7 @@ next_kept refused c r choice =
     ∙ sym (next_in c.sessions r.session)
 
 -- and the count of entries
-count_stays : (c : ControlValue) → Stays (λ (d : ControlValue). d.count) c
+count_stays : (c : ControlValue) → IsUntouched (λ (d : ControlValue). d.count) c
 count_stays c = record {
   told = λ session. refl;
   in_force = λ new codes. refl;
