@@ -33,8 +33,7 @@ fn is_targets(opcode: u8) -> bool
 }
 
 /// Whether this is a SCSI Command without F, or with both R and W.
-fn has_bad_flags(bhs: &[u8]) -> bool
-    requires { length bhs.now ≡ BHS_LENGTH }
+fn has_bad_flags(bhs: &[u8; BHS_LENGTH]) -> bool
     ensures { IsTrue result ↔ HasBadFlags bhs.now }
 {
     bhs[0] % 64 == 0x01
@@ -68,8 +67,7 @@ fn is_same(a: &[u8], b: &[u8]) -> bool
 }
 
 /// A target's header, where this is its BHS.
-fn target_header(b: &[u8], len: u32) -> Result<TargetHeader, PduFault>
-    requires long { length b.now ≡ BHS_LENGTH }
+fn target_header(b: &[u8; BHS_LENGTH], len: u32) -> Result<TargetHeader, PduFault>
     requires opcode { IsTargetOpcode (opcode_of b.now) }
     requires same_length { len ≡ three_at b.now 5 }
     requires limit { len ≤ MAX_DATA_SEGMENT_LENGTH }
@@ -91,7 +89,9 @@ fn header_of(bytes: &[u8], len: u32) -> Result<Header, PduFault>
     ensures found { IfOk result (HasFields (take BHS_LENGTH bytes.now)) }
     ensures fault { IfErr result (Stands bytes.now) }
 {
-    let bhs = &bytes[..BHS_LENGTH];
+    let Some(bhs) = bytes.first_chunk::<BHS_LENGTH>() else {
+        unreachable!()
+    };
     if is_initiators(bhs[0] % 64) {
         if has_bad_flags(bhs) {
             return Err(PduFault::BadFlags);

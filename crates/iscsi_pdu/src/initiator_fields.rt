@@ -1,6 +1,6 @@
 //! The fields of an initiator's basic header segments at their places (RFC 7143, section 11).
 
-ghost use Rattle.std.specs.Prelude.{◌≡◌, length};
+ghost use Rattle.std.specs.Prelude.{◌≡◌};
 ghost use Rattle.iscsi_pdu.specs.Fields.{opcode_of, HasInitiatorFields};
 ghost use Rattle.iscsi_pdu.specs.Fields.{nop_out_at, scsi_command_at, task_management_request_at, login_request_at};
 ghost use Rattle.iscsi_pdu.specs.Fields.{text_request_at, data_out_at, logout_request_at};
@@ -13,8 +13,7 @@ use crate::header::{
 };
 use crate::numbers::{cdb, command_numbers, half, has_bit, isid, lun, word};
 
-fn nop_out(bhs: &[u8]) -> NopOut
-    requires { length bhs.now ≡ BHS_LENGTH }
+fn nop_out(bhs: &[u8; BHS_LENGTH]) -> NopOut
     ensures { result ≡ nop_out_at bhs.now }
 {
     NopOut {
@@ -26,8 +25,7 @@ fn nop_out(bhs: &[u8]) -> NopOut
     }
 }
 
-fn scsi_command(bhs: &[u8]) -> ScsiCommand
-    requires { length bhs.now ≡ BHS_LENGTH }
+fn scsi_command(bhs: &[u8; BHS_LENGTH]) -> ScsiCommand
     ensures { result ≡ scsi_command_at bhs.now }
 {
     ScsiCommand {
@@ -43,8 +41,7 @@ fn scsi_command(bhs: &[u8]) -> ScsiCommand
     }
 }
 
-fn task_management_request(bhs: &[u8]) -> TaskManagementRequest
-    requires { length bhs.now ≡ BHS_LENGTH }
+fn task_management_request(bhs: &[u8; BHS_LENGTH]) -> TaskManagementRequest
     ensures { result ≡ task_management_request_at bhs.now }
 {
     TaskManagementRequest {
@@ -58,8 +55,7 @@ fn task_management_request(bhs: &[u8]) -> TaskManagementRequest
     }
 }
 
-fn login_request(bhs: &[u8]) -> LoginRequest
-    requires { length bhs.now ≡ BHS_LENGTH }
+fn login_request(bhs: &[u8; BHS_LENGTH]) -> LoginRequest
     ensures { result ≡ login_request_at bhs.now }
 {
     LoginRequest {
@@ -77,8 +73,7 @@ fn login_request(bhs: &[u8]) -> LoginRequest
     }
 }
 
-fn text_request(bhs: &[u8]) -> TextRequest
-    requires { length bhs.now ≡ BHS_LENGTH }
+fn text_request(bhs: &[u8; BHS_LENGTH]) -> TextRequest
     ensures { result ≡ text_request_at bhs.now }
 {
     TextRequest {
@@ -92,8 +87,7 @@ fn text_request(bhs: &[u8]) -> TextRequest
     }
 }
 
-fn data_out(bhs: &[u8]) -> DataOut
-    requires { length bhs.now ≡ BHS_LENGTH }
+fn data_out(bhs: &[u8; BHS_LENGTH]) -> DataOut
     ensures { result ≡ data_out_at bhs.now }
 {
     DataOut {
@@ -107,8 +101,7 @@ fn data_out(bhs: &[u8]) -> DataOut
     }
 }
 
-fn logout_request(bhs: &[u8]) -> LogoutRequest
-    requires { length bhs.now ≡ BHS_LENGTH }
+fn logout_request(bhs: &[u8; BHS_LENGTH]) -> LogoutRequest
     ensures { result ≡ logout_request_at bhs.now }
 {
     LogoutRequest {
@@ -121,9 +114,8 @@ fn logout_request(bhs: &[u8]) -> LogoutRequest
 }
 
 /// What an initiator's basic header segment says.
-pub fn read_initiator(bhs: &[u8]) -> InitiatorHeader
-    requires long { length bhs.now ≡ BHS_LENGTH }
-    requires opcode { IsInitiatorOpcode (opcode_of bhs.now) }
+pub fn read_initiator(bhs: &[u8; BHS_LENGTH]) -> InitiatorHeader
+    requires { IsInitiatorOpcode (opcode_of bhs.now) }
     ensures { HasInitiatorFields bhs.now result }
 {
     match bhs[0] % 64 {

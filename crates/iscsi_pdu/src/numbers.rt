@@ -45,8 +45,7 @@ pub fn word(bytes: &[u8], at: usize) -> u32
 }
 
 /// The LUN's eight bytes.
-pub fn lun(bhs: &[u8]) -> [u8; 8]
-    requires { length bhs.now ≡ BHS_LENGTH }
+pub fn lun(bhs: &[u8; BHS_LENGTH]) -> [u8; 8]
     ensures { result ≡ slice_range bhs.now 8 16 }
 {
     let mut lun = [0; 8];
@@ -55,8 +54,7 @@ pub fn lun(bhs: &[u8]) -> [u8; 8]
 }
 
 /// The ISID's six bytes.
-pub fn isid(bhs: &[u8]) -> [u8; 6]
-    requires { length bhs.now ≡ BHS_LENGTH }
+pub fn isid(bhs: &[u8; BHS_LENGTH]) -> [u8; 6]
     ensures { result ≡ slice_range bhs.now 8 14 }
 {
     let mut isid = [0; 6];
@@ -65,8 +63,7 @@ pub fn isid(bhs: &[u8]) -> [u8; 6]
 }
 
 /// The CDB's sixteen bytes.
-pub fn cdb(bhs: &[u8]) -> [u8; 16]
-    requires { length bhs.now ≡ BHS_LENGTH }
+pub fn cdb(bhs: &[u8; BHS_LENGTH]) -> [u8; 16]
     ensures { result ≡ slice_range bhs.now 32 48 }
 {
     let mut cdb = [0; 16];
@@ -75,8 +72,7 @@ pub fn cdb(bhs: &[u8]) -> [u8; 16]
 }
 
 /// CmdSN and ExpStatSN.
-pub fn command_numbers(bhs: &[u8]) -> CommandNumbers
-    requires { length bhs.now ≡ BHS_LENGTH }
+pub fn command_numbers(bhs: &[u8; BHS_LENGTH]) -> CommandNumbers
     ensures { result ≡ command_numbers_at bhs.now }
 {
     CommandNumbers {
@@ -86,8 +82,7 @@ pub fn command_numbers(bhs: &[u8]) -> CommandNumbers
 }
 
 /// StatSN, ExpCmdSN and MaxCmdSN.
-pub fn numbers(bhs: &[u8]) -> Numbers
-    requires { length bhs.now ≡ BHS_LENGTH }
+pub fn numbers(bhs: &[u8; BHS_LENGTH]) -> Numbers
     ensures { result ≡ numbers_at bhs.now }
 {
     Numbers {

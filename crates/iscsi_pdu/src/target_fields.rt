@@ -1,6 +1,6 @@
 //! The fields of a target's basic header segments at their places (RFC 7143, section 11).
 
-ghost use Rattle.std.specs.Prelude.{◌≡◌, length};
+ghost use Rattle.std.specs.Prelude.{◌≡◌};
 ghost use Rattle.iscsi_pdu.specs.Fields.{opcode_of, HasTargetFields};
 ghost use Rattle.iscsi_pdu.specs.Fields.{nop_in_at, scsi_response_at, task_management_response_at, login_response_at};
 ghost use Rattle.iscsi_pdu.specs.Fields.{text_response_at, data_in_at, logout_response_at, r2t_at, reject_at};
@@ -13,8 +13,7 @@ use crate::header::{
 };
 use crate::numbers::{half, has_bit, isid, lun, numbers, word};
 
-fn nop_in(bhs: &[u8]) -> NopIn
-    requires { length bhs.now ≡ BHS_LENGTH }
+fn nop_in(bhs: &[u8; BHS_LENGTH]) -> NopIn
     ensures { result ≡ nop_in_at bhs.now }
 {
     NopIn {
@@ -25,8 +24,7 @@ fn nop_in(bhs: &[u8]) -> NopIn
     }
 }
 
-fn scsi_response(bhs: &[u8]) -> ScsiResponse
-    requires { length bhs.now ≡ BHS_LENGTH }
+fn scsi_response(bhs: &[u8; BHS_LENGTH]) -> ScsiResponse
     ensures { result ≡ scsi_response_at bhs.now }
 {
     ScsiResponse {
@@ -41,8 +39,7 @@ fn scsi_response(bhs: &[u8]) -> ScsiResponse
     }
 }
 
-fn task_management_response(bhs: &[u8]) -> TaskManagementResponse
-    requires { length bhs.now ≡ BHS_LENGTH }
+fn task_management_response(bhs: &[u8; BHS_LENGTH]) -> TaskManagementResponse
     ensures { result ≡ task_management_response_at bhs.now }
 {
     TaskManagementResponse {
@@ -52,8 +49,7 @@ fn task_management_response(bhs: &[u8]) -> TaskManagementResponse
     }
 }
 
-fn login_response(bhs: &[u8]) -> LoginResponse
-    requires { length bhs.now ≡ BHS_LENGTH }
+fn login_response(bhs: &[u8; BHS_LENGTH]) -> LoginResponse
     ensures { result ≡ login_response_at bhs.now }
 {
     LoginResponse {
@@ -70,8 +66,7 @@ fn login_response(bhs: &[u8]) -> LoginResponse
     }
 }
 
-fn text_response(bhs: &[u8]) -> TextResponse
-    requires { length bhs.now ≡ BHS_LENGTH }
+fn text_response(bhs: &[u8; BHS_LENGTH]) -> TextResponse
     ensures { result ≡ text_response_at bhs.now }
 {
     TextResponse {
@@ -81,8 +76,7 @@ fn text_response(bhs: &[u8]) -> TextResponse
     }
 }
 
-fn data_in(bhs: &[u8]) -> DataIn
-    requires { length bhs.now ≡ BHS_LENGTH }
+fn data_in(bhs: &[u8; BHS_LENGTH]) -> DataIn
     ensures { result ≡ data_in_at bhs.now }
 {
     DataIn {
@@ -95,8 +89,7 @@ fn data_in(bhs: &[u8]) -> DataIn
     }
 }
 
-fn logout_response(bhs: &[u8]) -> LogoutResponse
-    requires { length bhs.now ≡ BHS_LENGTH }
+fn logout_response(bhs: &[u8; BHS_LENGTH]) -> LogoutResponse
     ensures { result ≡ logout_response_at bhs.now }
 {
     LogoutResponse {
@@ -108,8 +101,7 @@ fn logout_response(bhs: &[u8]) -> LogoutResponse
     }
 }
 
-fn r2t(bhs: &[u8]) -> R2t
-    requires { length bhs.now ≡ BHS_LENGTH }
+fn r2t(bhs: &[u8; BHS_LENGTH]) -> R2t
     ensures { result ≡ r2t_at bhs.now }
 {
     R2t {
@@ -123,8 +115,7 @@ fn r2t(bhs: &[u8]) -> R2t
     }
 }
 
-fn reject(bhs: &[u8]) -> Reject
-    requires { length bhs.now ≡ BHS_LENGTH }
+fn reject(bhs: &[u8; BHS_LENGTH]) -> Reject
     ensures { result ≡ reject_at bhs.now }
 {
     Reject {
@@ -134,9 +125,8 @@ fn reject(bhs: &[u8]) -> Reject
 }
 
 /// What a target's basic header segment says.
-pub fn read_target(bhs: &[u8]) -> TargetHeader
-    requires long { length bhs.now ≡ BHS_LENGTH }
-    requires opcode { IsTargetOpcode (opcode_of bhs.now) }
+pub fn read_target(bhs: &[u8; BHS_LENGTH]) -> TargetHeader
+    requires { IsTargetOpcode (opcode_of bhs.now) }
     ensures { HasTargetFields bhs.now result }
 {
     match bhs[0] % 64 {
