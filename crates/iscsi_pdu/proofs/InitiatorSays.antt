@@ -6,26 +6,10 @@ use Rattle.iscsi_pdu.specs.Fields.{HasInitiatorFields}
 use Rattle.iscsi_pdu.specs.Spelling.{initiator_bhs}
 use Rattle.iscsi_pdu.specs.Range.{IsInitiatorInRange}
 use Rattle.iscsi_pdu.proofs.Cells.{cells-whole}
-use Rattle.iscsi_pdu.proofs.Back.{
-  word-back,
-  half-back,
-  command_numbers-back,
-  immediate-back,
-  opcode-back,
-  lone_immediate-back,
-  lone_opcode-back,
-  read-back,
-  write-back,
-  attribute-back,
-  seven-back,
-  transit-back,
-  login_continues-back,
-  current-back,
-  next-back,
-  text_last-back,
-  text_continues-back,
-  last-back,
-}
+use Rattle.iscsi_pdu.proofs.Back.{word-back, half-back, command_numbers-back, immediate-back, opcode-back}
+use Rattle.iscsi_pdu.proofs.Back.{lone_immediate-back, lone_opcode-back, read-back, write-back, attribute-back}
+use Rattle.iscsi_pdu.proofs.Back.{seven-back, transit-back, login_continues-back, current-back, next-back}
+use Rattle.iscsi_pdu.proofs.Back.{text_last-back, text_continues-back, last-back}
 
 pub initiator-says : (h : InitiatorHeader) (n : ℕ) → IsInitiatorInRange h → HasInitiatorFields (initiator_bhs h n) h
 unfolding initiator_bhs

@@ -6,18 +6,8 @@ use Rattle.iscsi_pdu.specs.Fields.{HasTargetFields}
 use Rattle.iscsi_pdu.specs.Spelling.{target_bhs}
 use Rattle.iscsi_pdu.specs.Range.{IsTargetInRange}
 use Rattle.iscsi_pdu.proofs.Cells.{cells-whole}
-use Rattle.iscsi_pdu.proofs.Back.{
-  word-back,
-  half-back,
-  numbers-back,
-  transit-back,
-  login_continues-back,
-  current-back,
-  next-back,
-  last-back,
-  overflow-back,
-  underflow-back,
-}
+use Rattle.iscsi_pdu.proofs.Back.{word-back, half-back, numbers-back, transit-back, login_continues-back}
+use Rattle.iscsi_pdu.proofs.Back.{current-back, next-back, last-back, overflow-back, underflow-back}
 
 pub target-says : (h : TargetHeader) (n : ℕ) → IsTargetInRange h → HasTargetFields (target_bhs h n) h
 unfolding target_bhs
