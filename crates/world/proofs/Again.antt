@@ -55,27 +55,20 @@ module _ (t : Traffic) (n : ℕ) (x : Session) (stage : Stage) where
       ap (λ (xs : List Session). record t { sessions = xs; notes = t.notes ++ note_of count x what ∷ [] })
       (twice (record x { stage = Idle }))
 
+  -- a job that goes behind these that wait, where its session stands so
+  abbrev queued : Traffic → Session → ℕ → Job → Bool → List ℕ → List ℕ → Traffic
+  queued now y count job full one two =
+      if full
+      then given_up count now n y Busy
+      else record t {
+        sessions = slice_set now.sessions n (record x { stage = Waits job });
+        one = one;
+        two = two;
+        notes = t.notes ++ note_of count x Submitted ∷ [];
+      }
+
   handed : (count : ℕ) (job : Job) (full : Bool) (one two : List ℕ)
-      → (let a : Traffic = if full
-      then given_up count then_at n seen Busy
-      else record {
-        sessions = slice_set then_at.sessions n (record x { stage = Waits job });
-        one = one;
-        two = two;
-        one_is_closed = t.one_is_closed;
-        two_is_closed = t.two_is_closed;
-        notes = t.notes ++ note_of count x Submitted ∷ [];
-      } in a)
-      ≡ (if full
-      then given_up count t n x Busy
-      else record {
-        sessions = slice_set t.sessions n (record x { stage = Waits job });
-        one = one;
-        two = two;
-        one_is_closed = t.one_is_closed;
-        two_is_closed = t.two_is_closed;
-        notes = t.notes ++ note_of count x Submitted ∷ [];
-      })
+      → queued then_at seen count job full one two ≡ queued t x count job full one two
   handed count job true one two = given_up_again count Busy
   handed count job false one two =
       ap (λ (xs : List Session). record t { sessions = xs; one = one; two = two; notes = t.notes ++ note_of count x Submitted ∷ [] })

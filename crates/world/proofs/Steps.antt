@@ -163,36 +163,25 @@ module _ (claims : Bool) (s : UnitState) (place : ℕ) (h : List Entry) where
     pub stage_is : (stage : Stage) → x.stage ≡ stage → x.place ≡ place → StageOk claims s h t.notes x stage
     stage_is stage is at = subst (λ (z : Stage). StageOk claims s h t.notes x z) is (sound.stage n x there at)
 
-    idle_or_not : (count : ℕ) (job : Job) (stage : Stage) → x.stage ≡ stage → (x.place ≡ place → count ≡ length h)
-        → (x.place ≡ place → JobOk job)
-        → IsSound (if is_idle stage then handed_in count t n x job else t)
-    idle_or_not count job Idle is c ok = sound_handed_in count job c (λ at. stage_is Idle is at) ok
-    idle_or_not count job (Waits other) is c ok = sound
-    idle_or_not count job (InLane other) is c ok = sound
-    idle_or_not count job (Ended other end) is c ok = sound
-    idle_or_not count job (Answered other end) is c ok = sound
-    idle_or_not count job (Flushes flush) is c ok = sound
-    idle_or_not count job (Returned other) is c ok = sound
+    where_idle : (new : Traffic) (stage : Stage) → (stage ≡ Idle → IsSound new) → IsSound (if is_idle stage then new else t)
+    where_idle new Idle ok = ok refl
+    where_idle new (Waits other) ok = sound
+    where_idle new (InLane other) ok = sound
+    where_idle new (Ended other end) ok = sound
+    where_idle new (Answered other end) ok = sound
+    where_idle new (Flushes flush) ok = sound
+    where_idle new (Returned other) ok = sound
 
     pub sound_submitted : (count : ℕ) (job : Job) → (x.place ≡ place → count ≡ length h)
         → (x.place ≡ place → JobOk job)
         → IsSound (submitted count t n x job)
-    sound_submitted count job c ok = idle_or_not count job x.stage refl c ok
-
-    begun_or_not : (count : ℕ) (job : Job) (stage : Stage) → x.stage ≡ stage → (x.place ≡ place → count ≡ length h)
-        → (x.place ≡ place → JobOk job)
-        → IsSound (if is_idle stage then in_hand count t n x job else t)
-    begun_or_not count job Idle is c ok = sound_in_hand count job c (λ at. stage_is Idle is at) ok
-    begun_or_not count job (Waits other) is c ok = sound
-    begun_or_not count job (InLane other) is c ok = sound
-    begun_or_not count job (Ended other end) is c ok = sound
-    begun_or_not count job (Answered other end) is c ok = sound
-    begun_or_not count job (Flushes flush) is c ok = sound
-    begun_or_not count job (Returned other) is c ok = sound
+    sound_submitted count job c ok =
+        where_idle (handed_in count t n x job) x.stage (λ is. sound_handed_in count job c (λ at. stage_is Idle is at) ok)
 
     pub sound_begun : (count : ℕ) (job : Job) → (x.place ≡ place → count ≡ length h)
         → (x.place ≡ place → JobOk job) → IsSound (begun count t n x job)
-    sound_begun count job c ok = begun_or_not count job x.stage refl c ok
+    sound_begun count job c ok =
+        where_idle (in_hand count t n x job) x.stage (λ is. sound_in_hand count job c (λ at. stage_is Idle is at) ok)
 
     -- a command that came to Moved goes on once more
     abbrev Sent : (Traffic → ℕ → Session → Job → Traffic) → Bool → Traffic → Job → Type 0

@@ -1,10 +1,8 @@
 //! What a session hears of its command.
 ghost use Rattle.std.specs.Prelude.{◌≡◌, ◌<◌, length, slice_get, IfSome};
 ghost use Rattle.world.specs.Records.{HasRoom, traffic_of};
-ghost use Rattle.world.specs.Traffic.{at_stage, collected, flush_ended, free, given, heard, note_of, noted, replied, settled};
+ghost use Rattle.world.specs.Traffic.{collected, flush_ended, free, given, heard, note_of, noted, replied, settled};
 ghost use Rattle.world.specs.Traffic.{told_behind, with_session};
-ghost use Rattle.world.specs.declared.note.What.TheVariants.{FlushBegan};
-ghost use Rattle.world.specs.declared.session.Stage.TheVariants.{Flushes};
 ghost use Rattle.unit_lock.specs.declared.machine.Refused.TheVariants as causes;
 ghost use Rattle.unit_events.specs.declared.job.End.TheVariants as ends;
 
@@ -58,16 +56,13 @@ impl Records {
             late: None,
         };
         if is_good(&reply) {
-            self.begin_flush(
-                n,
-                count,
-                Flush {
-                    job,
-                    reply,
-                    place,
-                    next,
-                },
-            );
+            let flush = Flush {
+                job,
+                reply,
+                place,
+                next,
+            };
+            self.go_on(n, count, Stage::Flushes(flush), What::FlushBegan);
         } else {
             self.end_command(n, count, next, What::Settled(job, reply, place, false));
         }
@@ -84,19 +79,6 @@ impl Records {
         let note = note_of(session, count, what);
         session.next = next;
         session.go_to(Stage::Idle);
-        self.notes.push_reserved(note);
-    }
-
-    // A flush begins behind its command.
-    fn begin_flush(&mut self, n: usize, count: u64, flush: Flush)
-        requires room { HasRoom self.old }
-        requires there { n < length self.old.sessions.items }
-        ensures { IfSome (slice_get self.old.sessions.items n)
-            (λ x. traffic_of self.new ≡ noted (at_stage (traffic_of self.old) n x (Flushes flush)) (note_of count x FlushBegan)) }
-    {
-        let session = &mut self.sessions[n];
-        let note = note_of(session, count, What::FlushBegan);
-        session.go_to(Stage::Flushes(flush));
         self.notes.push_reserved(note);
     }
 

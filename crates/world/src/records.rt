@@ -3,7 +3,7 @@ ghost use Rattle.std.specs.Prelude.{◌≡◌, ◌<◌, ◌∷◌, [], ℕ, Some
 ghost use Rattle.std.specs.List.{remove};
 ghost use Rattle.world.specs.Records.{HasRoom, sent, traffic_of, turned};
 ghost use Rattle.world.specs.Traffic.{at_stage, attached, closed, ended, given, given_up, handed_in};
-ghost use Rattle.world.specs.Traffic.{IsAgain, IsTakenBack, in_hand, in_lane, is_closed, is_idle, no_traffic, note_of, posted};
+ghost use Rattle.world.specs.Traffic.{IsAgain, IsTakenBack, in_hand, in_lane, is_closed, is_idle, no_traffic, note_of, noted, posted};
 ghost use Rattle.world.specs.Traffic.{taken, waiting, with_waiting};
 
 use crate::desk::Desk;
@@ -95,6 +95,19 @@ impl Records {
         });
     }
 
+    // A session's command goes on to this stage, and it is noted what the session did.
+    pub(crate) fn go_on(&mut self, n: usize, count: u64, stage: Stage, what: What)
+        requires room { HasRoom self.old }
+        requires there { n < length self.old.sessions.items }
+        ensures { IfSome (slice_get self.old.sessions.items n)
+            (λ x. traffic_of self.new ≡ noted (at_stage (traffic_of self.old) n x stage) (note_of count x what)) }
+    {
+        let session = &mut self.sessions[n];
+        let note = note_of(session, count, what);
+        session.go_to(stage);
+        self.notes.push_reserved(note);
+    }
+
     // A session's command ends without a reply.
     pub(crate) fn give_up(&mut self, n: usize, count: u64, what: What)
         requires room { HasRoom self.old }
@@ -102,10 +115,7 @@ impl Records {
         ensures { IfSome (slice_get self.old.sessions.items n)
             (λ x. traffic_of self.new ≡ given_up count (traffic_of self.old) n x what) }
     {
-        let session = &mut self.sessions[n];
-        let note = note_of(session, count, what);
-        session.go_to(Stage::Idle);
-        self.notes.push_reserved(note);
+        self.go_on(n, count, Stage::Idle, what);
     }
 
     // Hands a session's job in.
@@ -123,10 +133,7 @@ impl Records {
             self.give_up(n, count, What::Busy);
             return;
         }
-        let session = &mut self.sessions[n];
-        let note = note_of(session, count, What::Submitted);
-        session.go_to(Stage::Waits(job));
-        self.notes.push_reserved(note);
+        self.go_on(n, count, Stage::Waits(job), What::Submitted);
     }
 
     // Whether the desk of a group is closed.
@@ -160,10 +167,7 @@ impl Records {
             self.give_up(n, count, What::Busy);
             return;
         }
-        let session = &mut self.sessions[n];
-        let note = note_of(session, count, What::Submitted);
-        session.go_to(Stage::InLane(job));
-        self.notes.push_reserved(note);
+        self.go_on(n, count, Stage::InLane(job), What::Submitted);
     }
 
     // Sends a session's job this way.

@@ -63,6 +63,19 @@ pub(crate) enum Turn {
     Post,
 }
 
+// What is kept at a stage, which is then idle; at any other stage nothing, and it stays.
+macro_rules! take_at {
+    ($stage:expr, $at:pat => $kept:expr) => {
+        match mem::replace($stage, Stage::Idle) {
+            $at => Some($kept),
+            other => {
+                *$stage = other;
+                None
+            }
+        }
+    };
+}
+
 impl Stage {
     // The stage behind a turn.
     fn turned(self, turn: Turn) -> Stage
@@ -119,13 +132,7 @@ impl Stage {
         ensures job { result ≡ answered_in self.old }
         ensures none { IfNone result (self.new ≡ self.old) }
     {
-        match mem::replace(self, Stage::Idle) {
-            Stage::Answered(job, end) => Some((job, end)),
-            other => {
-                *self = other;
-                None
-            }
-        }
+        take_at!(self, Stage::Answered(job, end) => (job, end))
     }
 
     // The command behind which a flush is on its way.
@@ -133,13 +140,7 @@ impl Stage {
         ensures flush { result ≡ flush_in self.old }
         ensures none { IfNone result (self.new ≡ self.old) }
     {
-        match mem::replace(self, Stage::Idle) {
-            Stage::Flushes(flush) => Some(flush),
-            other => {
-                *self = other;
-                None
-            }
-        }
+        take_at!(self, Stage::Flushes(flush) => flush)
     }
 
     // The job that came to Moved.
@@ -147,13 +148,7 @@ impl Stage {
         ensures job { result ≡ returned_in self.old }
         ensures none { IfNone result (self.new ≡ self.old) }
     {
-        match mem::replace(self, Stage::Idle) {
-            Stage::Returned(job) => Some(job),
-            other => {
-                *self = other;
-                None
-            }
-        }
+        take_at!(self, Stage::Returned(job) => job)
     }
 }
 
