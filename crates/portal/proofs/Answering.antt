@@ -4,6 +4,7 @@ use Rattle.std.proofs.Common.{Option, Some, None, Result, refl, sym, ap, ◌∙�
 use Rattle.std.proofs.lemmas.Bool.Decides.{eqb_tells}
 use Rattle.std.proofs.lemmas.Bool.{cases_lt}
 use Rattle.std.proofs.lemmas.Grind.{flat_map-append}
+use Rattle.std.proofs.lemmas.List.{length-set}
 use Rattle.std.specs.Prelude.{◌⊎◌, slice_get, slice_set, MatchOption}
 use Rattle.login.specs.declared.status.SessionType.{SessionType}
 use Rattle.login.specs.declared.status.SessionType.TheVariants.{Normal, Discovery}
@@ -40,7 +41,7 @@ use Rattle.portal.specs.Worker.{IsSession}
 use Rattle.scsi_types.specs.Nexus.{group_number}
 use Rattle.portal.proofs.Chains.{both_of, GrowsAt, grows_served, grows_reset_at}
 use Rattle.portal.proofs.Retiring.{Ended, ended, over_at, over_none}
-use Rattle.portal.proofs.Slots.{get_written, get_other, length_written, nowhere, there}
+use Rattle.portal.proofs.Slots.{get_written, get_other, nowhere, there}
 
 either_none : (b : Bool) (ds : List Done) → ds ≡ [] → cond b ds [] ≡ []
 either_none true ds is = is
@@ -57,6 +58,12 @@ at_more unit asks ask =
 at_same : (unit : ℕ) (asks : List Asking) (ask : Asking) → done_in unit ask ≡ [] → done_at unit (asks ++ ask ∷ []) ≡ done_at unit asks
 at_same unit asks ask is =
     at_more unit asks ask ∙ ap (λ (ds : List Done). done_at unit asks ++ ds) is ∙ append-nil (done_at unit asks)
+
+-- where it began among them
+began_on : (asks : List Asking) (ask : Asking) (front : List Asking) (first : Asking) (rest : List Asking) → asks ≡ front ++ first ∷ rest
+    → asks ++ ask ∷ [] ≡ front ++ first ∷ (rest ++ ask ∷ [])
+began_on asks ask front first rest is =
+    ap (λ (l : List Asking). l ++ ask ∷ []) is ∙ append_assoc front (first ∷ rest) (ask ∷ [])
 
 module _ (claims : Claims) (late : Late) (opening : ℕ → UnitState) where
   -- the session at a unit has done this since it attached
@@ -177,8 +184,7 @@ module _ (claims : Claims) (table : Sayings) (late : Late) (opening : ℕ → Un
         tsih = r.tsih;
         front = r.front;
         rest = r.rest ++ ask ∷ [];
-        began_is = ap (λ (l : List Asking). l ++ ask ∷ []) r.began_is
-            ∙ append_assoc r.front (began r.port Normal (Begun r.tsih) ∷ r.rest) (ask ∷ []);
+        began_is = began_on asks ask r.front (began r.port Normal (Begun r.tsih)) r.rest r.began_is;
         done = λ (unit : ℕ) (lt : unit < units).
             let d = r.done unit lt in (
               d.0,
@@ -190,8 +196,13 @@ module _ (claims : Claims) (table : Sayings) (late : Late) (opening : ℕ → Un
         none = λ (unit : ℕ) (le : units ≤ unit). at_same unit asks ask (idles unit) ∙ r.none unit le;
       })) answered
 
-  running_more : (asks : List Asking) (ask : Asking) (t : TargetValue) → Idles ask → Running asks t → Running (asks ++ ask ∷ []) t
-  running_more asks ask t idles r =
+  -- a session that runs and was asked once more runs on, at the units as they are behind that
+  runs_on : (asks : List Asking) (ask : Asking) (t : TargetValue) (at : List At) (r : Running asks t) → length at ≡ length t.at
+      → ((unit : ℕ) (a : At) → slice_get at unit ≡ Some a
+      → DoneAt claims late opening (through r.port group) unit (done_at unit (asks ++ ask ∷ [])) a)
+      → ((unit : ℕ) → units ≤ unit → done_at unit asks ≡ [] → done_at unit (asks ++ ask ∷ []) ≡ [])
+      → Running (asks ++ ask ∷ []) (record t { at = at })
+  runs_on asks ask t at r count done none =
       record {
         begun = r.begun;
         unseen = r.unseen;
@@ -199,14 +210,19 @@ module _ (claims : Claims) (table : Sayings) (late : Late) (opening : ℕ → Un
         tsih = r.tsih;
         front = r.front;
         rest = r.rest ++ ask ∷ [];
-        began_is = ap (λ (l : List Asking). l ++ ask ∷ []) r.began_is
-            ∙ append_assoc r.front (began r.port Normal (Begun r.tsih) ∷ r.rest) (ask ∷ []);
-        count = r.count;
-        at = λ (unit : ℕ) (a : At) (here : slice_get t.at unit ≡ Some a).
-            subst (λ (ds : List Done). DoneAt claims late opening (through r.port group) unit ds a)
-            (sym (at_same unit asks ask (idles unit))) (r.at unit a here);
-        none = λ (unit : ℕ) (le : units ≤ unit). at_same unit asks ask (idles unit) ∙ r.none unit le;
+        began_is = began_on asks ask r.front (began r.port Normal (Begun r.tsih)) r.rest r.began_is;
+        count = count ∙ r.count;
+        at = done;
+        none = λ (unit : ℕ) (le : units ≤ unit). none unit le (r.none unit le);
       }
+
+  running_more : (asks : List Asking) (ask : Asking) (t : TargetValue) → Idles ask → Running asks t → Running (asks ++ ask ∷ []) t
+  running_more asks ask t idles r =
+      runs_on asks ask t t.at r refl
+      (λ (unit : ℕ) (a : At) (here : slice_get t.at unit ≡ Some a).
+      subst (λ (ds : List Done). DoneAt claims late opening (through r.port group) unit ds a)
+      (sym (at_same unit asks ask (idles unit))) (r.at unit a here))
+      (λ (unit : ℕ) (le : units ≤ unit) (none : done_at unit asks ≡ []). at_same unit asks ask (idles unit) ∙ none)
 
   kept : (asks : List Asking) (ask : Asking) (t new : TargetValue) → Idles ask → new ≡ t → Standing asks t
       → Standing (asks ++ ask ∷ []) new
@@ -254,7 +270,7 @@ module _ (claims : Claims) (table : Sayings) (late : Late) (opening : ℕ → Un
     done_there nexus unit b miss other at before =
         let d : done_in unit ask ≡ [] = does unit ∙ ap (λ (c : Bool). cond c done []) miss in
         subst (λ (ds : List Done). DoneAt claims late opening nexus unit ds b) (sym (at_same unit asks ask d))
-        (before unit b (sym (get_other t.at n unit after other) ∙ at))
+        (before unit b (get_other t.at n unit after b other at))
 
     none_there : (unit : ℕ) → units ≤ unit → done_at unit asks ≡ [] → done_at unit (asks ++ ask ∷ []) ≡ []
     none_there unit le none =
@@ -264,22 +280,11 @@ module _ (claims : Claims) (table : Sayings) (late : Late) (opening : ℕ → Un
 
     running_on : Running asks t → Running (asks ++ ask ∷ []) (record t { at = slice_set t.at n after })
     running_on r =
-        record {
-          begun = r.begun;
-          unseen = r.unseen;
-          port = r.port;
-          tsih = r.tsih;
-          front = r.front;
-          rest = r.rest ++ ask ∷ [];
-          began_is = ap (λ (l : List Asking). l ++ ask ∷ []) r.began_is
-              ∙ append_assoc r.front (began r.port Normal (Begun r.tsih) ∷ r.rest) (ask ∷ []);
-          count = length_written t.at n after ∙ r.count;
-          at = λ (unit : ℕ) (b : At) (at : slice_get (slice_set t.at n after) unit ≡ Some b).
-              ⊎_elim (λ (y : (nat_eq n unit ≡ true) × (n ≡ unit)). done_here (through r.port group) unit b y.0 y.1 at r.at)
-              (λ (o : (nat_eq n unit ≡ false) × (n ≢ unit)). done_there (through r.port group) unit b o.0 o.1 at r.at)
-              (eqb_tells n unit);
-          none = λ (unit : ℕ) (le : units ≤ unit). none_there unit le (r.none unit le);
-        }
+        runs_on asks ask t (slice_set t.at n after) r (length-set t.at n after)
+        (λ (unit : ℕ) (b : At) (at : slice_get (slice_set t.at n after) unit ≡ Some b).
+        ⊎_elim (λ (y : (nat_eq n unit ≡ true) × (n ≡ unit)). done_here (through r.port group) unit b y.0 y.1 at r.at)
+        (λ (o : (nat_eq n unit ≡ false) × (n ≢ unit)). done_there (through r.port group) unit b o.0 o.1 at r.at)
+        (eqb_tells n unit)) none_there
 
     -- a session that is attached to no unit has done nothing
     not_at : t.at ≡ [] → ⊥

@@ -2,7 +2,9 @@
 use Rattle.std.proofs.Common.{◌≡◌, ◌≢◌, ℕ, zero, suc, ◌+◌, ◌<◌, ◌≤◌, All, Bool, false, true, List, [], ◌∷◌, length, Option, Some, None, refl, ap, arith}
 use Rattle.std.proofs.Common.{Result, ⊎_elim, subst, sym, ◌∙◌}
 use Rattle.std.proofs.lemmas.List.Elements.{All-set}
-use Rattle.std.proofs.lemmas.Option.{get_or_from_slice_get, slice_get_within}
+use Rattle.std.proofs.lemmas.Bool.{cases_lt}
+use Rattle.std.proofs.lemmas.List.{get_or-set_other, get_or-set_same, length-set}
+use Rattle.std.proofs.lemmas.Option.{get_or_from_slice_get, slice_get-get_or, slice_get_past, slice_get_within}
 use Rattle.std.specs.Prelude.{IfSome, MatchOption, slice_get, slice_set}
 use Rattle.scsi_types.specs.declared.command.Command.{Command as ScsiCommand}
 use Rattle.scsi_types.specs.declared.command.CdbFault.{CdbFault}
@@ -16,22 +18,16 @@ use Rattle.portal.specs.Units.{Claims}
 use Rattle.portal.specs.Target.{TargetValue}
 
 module _ {X : Type 0} where
+  -- what stands in a list in which one place was written: there what was written, elsewhere what stood there before
   pub get_written : (xs : List X) (n : ℕ) (x a : X) → slice_get xs n ≡ Some a → slice_get (slice_set xs n x) n ≡ Some x
-  get_written [] n x a is = absurd (cc)
-  get_written (y ∷ xs) zero x a is = refl
-  get_written (y ∷ xs) (suc n) x a is = get_written xs n x a is
+  get_written xs n x a is =
+      let lt = slice_get_within xs n a is in
+      slice_get-get_or (slice_set xs n x) n x (omega (arith, lt, length-set xs n x)) ∙ ap Some (get_or-set_same xs n x x lt)
 
-  pub get_other : (xs : List X) (n m : ℕ) (x : X) → n ≢ m → slice_get (slice_set xs n x) m ≡ slice_get xs m
-  get_other [] n m x other = refl
-  get_other (y ∷ xs) zero zero x other = absurd (other refl)
-  get_other (y ∷ xs) zero (suc m) x other = refl
-  get_other (y ∷ xs) (suc n) zero x other = refl
-  get_other (y ∷ xs) (suc n) (suc m) x other = get_other xs n m x (λ (is : n ≡ m). other (ap (λ (k : ℕ). suc k) is))
-
-  pub length_written : (xs : List X) (n : ℕ) (x : X) → length (slice_set xs n x) ≡ length xs
-  length_written [] n x = refl
-  length_written (y ∷ xs) zero x = refl
-  length_written (y ∷ xs) (suc n) x = let e = length_written xs n x in omega (arith, e)
+  pub get_other : (xs : List X) (n m : ℕ) (x b : X) → n ≢ m → slice_get (slice_set xs n x) m ≡ Some b → slice_get xs m ≡ Some b
+  get_other xs n m x b other is =
+      slice_get-get_or xs m b (omega (arith, slice_get_within (slice_set xs n x) m b is, length-set xs n x))
+      ∙ ap Some (sym (get_or-set_other xs n m x b (λ e. other (sym e))) ∙ get_or_from_slice_get (slice_set xs n x) m b b is)
 
   -- what stands at a place that there is
   pub there : (xs : List X) (n : ℕ) → n < length xs → (a : X) × (slice_get xs n ≡ Some a)
@@ -46,9 +42,7 @@ module _ {X : Type 0} where
 
   -- nothing where there is no place
   beyond : (xs : List X) (n : ℕ) → (n < length xs → false ≡ true) → slice_get xs n ≡ None
-  beyond [] n less = refl
-  beyond (y ∷ xs) zero less = let e : false ≡ true = less (omega arith) in absurd (cc)
-  beyond (y ∷ xs) (suc n) less = beyond xs n (λ lt. less (omega (arith, lt)))
+  beyond xs n less = ⊎_elim (λ lt. let e : false ≡ true = less lt in absurd (cc)) (slice_get_past xs n) (cases_lt n (length xs))
 
   -- what is said of what stands at a place is said of the list
   at_place : (xs : List X) (n : ℕ) (a : X) (P : Type 0) (Q : X → Type 0) → slice_get xs n ≡ Some a → Q a
@@ -77,7 +71,7 @@ pub still_placed : {C H : Type 0} (units capacity : ℕ) (slot : Option C) (begu
     × IfSome slot (λ _. (begun ≡ false) × (slice_set at n after ≡ []) × (seen ≡ []))
 still_placed units capacity (Some c) begun at seen n a after here stays is = absurd (nowhere at n a is.2.1 here)
 still_placed units capacity None begun at seen n a after here stays is =
-    let e = length_written at n after in
+    let e = length-set at n after in
     let count = is.1 in (
       All-set (λ a. a.place < units) at n after
           (subst (λ (p : ℕ). p < units) (sym stays) (placed_at units at n a is.0 here)) is.0,
