@@ -19,7 +19,8 @@ pub record TableValue (C : Type 0) : Type 0 where
 
 -- A session of this port through this group, of this kind. There is one at most: a new one takes its place (RFC 7143, 6.3.5).
 abbrev pub is_older : {C : Type 0} → Nexus → SessionType → LiveSession C → Bool
-is_older nexus kind s = same_kind s.kind kind && same_group s.group nexus.group && same_port s.port nexus.port
+is_older nexus kind s =
+    same_kind s.begun.kind kind && same_group s.begun.group nexus.group && same_port s.begun.port nexus.port
 
 -- those that live on where one of this nexus and kind begins
 abbrev pub others : {C : Type 0} → Nexus → SessionType → List (LiveSession C) → List (LiveSession C)
@@ -31,7 +32,7 @@ without number live = filter (λ s. not (nat_eq s.number number)) live
 
 -- the session with this TSIH lives, and is of this port
 abbrev pub is_live : {C : Type 0} → List (LiveSession C) → ℕ → Port → Bool
-is_live live tsih port = list_any (λ s. nat_eq s.tsih tsih && same_port s.port port) live
+is_live live tsih port = list_any (λ s. nat_eq s.tsih tsih && same_port s.begun.port port) live
 
 -- each has its TSIH
 abbrev pub handle_of : {C : Type 0} → LiveSession C → ℕ
@@ -44,7 +45,7 @@ pub record HasEntered {C : Type 0} (old new : TableValue C) (session : LiveSessi
   pub next : IsNextTsih handle_of old.last old.live session.tsih
   pub number : session.number ≡ old.begun
   pub table : new ≡ record {
-    live = others (record { port = session.port; group = session.group }) session.kind old.live ++ session ∷ [];
+    live = others (record { port = session.begun.port; group = session.begun.group }) session.begun.kind old.live ++ session ∷ [];
     last = session.tsih;
     begun = old.begun + 1;
   }

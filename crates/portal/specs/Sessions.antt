@@ -33,9 +33,7 @@ module _ {C : Type 0} where
       (connection : C) × HasEntered old new (record {
         number = number;
         tsih = tsih;
-        port = nexus.port;
-        group = nexus.group;
-        kind = kind;
+        begun = record { port = nexus.port; group = nexus.group; kind = kind };
         connection = connection;
       })
 

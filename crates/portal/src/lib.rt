@@ -32,7 +32,7 @@ pub use device::TargetDevice;
 pub use gate::{Disks, Gate, Prepared};
 pub use handles::{Handled, LAST_NUMBER, LAST_TSIH, next_tsih};
 pub use lanes::{AtDesk, Lane, start_lanes};
-pub use live::{EnterFault, LiveSession, Table};
+pub use live::{EnterFault, LiveSession, NewSession, Table};
 pub use logged_target::{LoggedTarget, Visitor};
 pub use observer::Observer;
 pub use server::{Server, Socket, Stop, accept, listen};

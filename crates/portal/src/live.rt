@@ -12,6 +12,17 @@ use std::alloc::{AllocError, Global};
 use std::marker::Model;
 use thiserror::Error;
 
+/// A session that is to begin to live.
+#[derive(Drop)]
+pub struct NewSession {
+    /// Its initiator port.
+    pub port: PortName,
+    /// The group of the portals by which it came.
+    pub group: Group,
+    /// What it is for.
+    pub kind: SessionType,
+}
+
 /// A session that has begun and is not over.
 #[derive(Drop)]
 pub struct LiveSession<C> {
@@ -19,12 +30,8 @@ pub struct LiveSession<C> {
     pub number: u64,
     /// Its Target Session Identifying Handle.
     pub tsih: u16,
-    /// Its initiator port.
-    pub port: PortName,
-    /// The group of the portals by which it came.
-    pub group: Group,
-    /// What it is for.
-    pub kind: SessionType,
+    /// What it began as.
+    pub begun: NewSession,
     /// What it runs over.
     pub connection: C,
 }
@@ -81,20 +88,21 @@ impl<C> Model for Table<C> {
 
 // Whether a session is of this port.
 fn is_of_port<C>(session: &LiveSession<C>, name: &[u8], isid: u64) -> bool
-    ensures { result ≡ same_port session.now.port (record { name = name.now; isid = isid }) }
+    ensures { result ≡ same_port session.now.begun.port (record { name = name.now; isid = isid }) }
 {
-    session.port.isid() == isid && session.port.name() == name
+    session.begun.port.isid() == isid && session.begun.port.name() == name
 }
 
 // Whether a new session takes the place of this one: it is of the same port, group and kind (RFC 7143, 6.3.5).
-fn is_older<C>(session: &LiveSession<C>, new: &LiveSession<C>) -> bool
+fn is_older<C>(session: &LiveSession<C>, new: &NewSession) -> bool
     ensures { result ≡ is_older (through new.now.port new.now.group) new.now.kind session.now }
 {
-    session.kind == new.kind && session.group == new.group && session.port.same(&new.port)
+    let begun = &session.begun;
+    begun.kind == new.kind && begun.group == new.group && begun.port.same(&new.port)
 }
 
 // Ends the connection of the session whose place a new one takes.
-fn shut_older<C: Connection>(live: &[LiveSession<C>], new: &LiveSession<C>) {
+fn shut_older<C: Connection>(live: &[LiveSession<C>], new: &NewSession) {
     for session in live {
         if is_older(session, new) {
             session.connection.shut();
@@ -114,9 +122,9 @@ fn shut_one<C: Connection>(live: &[LiveSession<C>], tsih: u16) {
 // Puts a new session in the place of the one that its nexus had of its kind. Takes no memory.
 fn replace<C: Drop>(live: &mut Vec<LiveSession<C>>, new: LiveSession<C>)
     requires { length live.old.items < vec_capacity live.old }
-    ensures { live.new.items ≡ others (through new.port new.group) new.kind live.old.items ++ new ∷ [] }
+    ensures { live.new.items ≡ others (through new.begun.port new.begun.group) new.begun.kind live.old.items ++ new ∷ [] }
 {
-    live.retain(|session| !is_older(session, &new));
+    live.retain(|session| !is_older(session, &new.begun));
     live.push_reserved(new);
 }
 
@@ -139,25 +147,12 @@ impl<C> Table<C> {
         }
     }
 
-    /// A session of this port, group and kind begins to live: its number and its TSIH. An older one of the same port, group
-    /// and kind is over, and its connection ends (RFC 7143, 6.3.5).
-    pub fn enter(
-        &mut self,
-        port: PortName,
-        group: Group,
-        kind: SessionType,
-        connection: C,
-    ) -> Result<(u64, u16), EnterFault>
+    /// A session begins to live: its number and its TSIH. An older one of the same port, group and kind is over, and its connection ends (RFC 7143, 6.3.5).
+    pub fn enter(&mut self, new: NewSession, connection: C) -> Result<(u64, u16), EnterFault>
     where
         C: Connection + Drop,
-        ensures entered { IfOk result (λ r. HasEntered self.old self.new (record {
-          number = r.0;
-          tsih = r.1;
-          port = port;
-          group = group;
-          kind = kind;
-          connection = connection;
-        })) }
+        ensures entered { IfOk result (λ r. HasEntered self.old self.new
+            (record { number = r.0; tsih = r.1; begun = new; connection = connection })) }
         ensures cause { IfErr result (IsCauseOf self.old) }
         ensures unchanged { OnErr result (self.new ≡ self.old) }
     {
@@ -169,15 +164,13 @@ impl<C> Table<C> {
             return Err(EnterFault::NoNumber);
         }
         self.live.reserve(1)?;
+        shut_older(&self.live, &new);
         let session = LiveSession {
             number,
             tsih,
-            port,
-            group,
-            kind,
+            begun: new,
             connection,
         };
-        shut_older(&self.live, &session);
         replace(&mut self.live, session);
         self.last = tsih;
         self.begun = number + 1;

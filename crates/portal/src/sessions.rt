@@ -5,9 +5,7 @@ ghost use Rattle.scsi_types.specs.Nexus.{Port, Nexus};
 ghost use Rattle.portal.specs.Sessions.{Sayings};
 
 use crate::connection::Connection;
-use crate::live::{EnterFault, Table};
-use login::SessionType;
-use scsi_types::{Group, PortName};
+use crate::live::{EnterFault, NewSession, Table};
 use std::sync::{Mutex, Wait};
 
 /// The table of the sessions that live at an array, which all its threads share.
@@ -15,18 +13,15 @@ pub trait Sessions<C: Connection> {
     /// What its calls have said of the sessions. Nothing else says it.
     ghost says: { Sayings };
 
-    /// A session of this port, group and kind begins to live, as by [`Table::enter`]: its number and its TSIH. Its initiator may be
-    /// silent from now on.
+    /// A session begins to live, as by [`Table::enter`]: its number and its TSIH. Its initiator may be silent from now on.
     fn enter<R: Wait>(
         &self,
         rt: &R,
-        port: PortName,
-        group: Group,
-        kind: SessionType,
+        new: NewSession,
         connection: C,
     ) -> Result<(u64, u16), EnterFault>
         requires unlimited { C.is_unlimited connection }
-        ensures entered { IfOk result (λ r. says.entered (through port group) kind r.0 r.1) }
+        ensures entered { IfOk result (λ r. says.entered (through new.port new.group) new.kind r.0 r.1) }
         ensures tsih { IfOk result (λ r. 0 < r.1) }
         ensures refused { IfErr result says.refused };
 
@@ -60,14 +55,8 @@ pub trait Living<C> {
     /// The session with this number is over.
     ghost left: { Self → ℕ → Self → Type 0 };
 
-    fn enter(
-        &mut self,
-        port: PortName,
-        group: Group,
-        kind: SessionType,
-        connection: C,
-    ) -> Result<(u64, u16), EnterFault>
-        ensures entered { IfOk result (λ r. entered self.old (through port group) kind r.0 r.1 self.new) }
+    fn enter(&mut self, new: NewSession, connection: C) -> Result<(u64, u16), EnterFault>
+        ensures entered { IfOk result (λ r. entered self.old (through new.port new.group) new.kind r.0 r.1 self.new) }
         ensures tsih { IfOk result (λ r. 0 < r.1) }
         ensures refused { IfErr result (refused self.old) };
 
@@ -92,14 +81,8 @@ impl<C: Connection + Drop> Living<C> for Table<C> {
 
     ghost left = { left_in };
 
-    fn enter(
-        &mut self,
-        port: PortName,
-        group: Group,
-        kind: SessionType,
-        connection: C,
-    ) -> Result<(u64, u16), EnterFault> {
-        self.enter(port, group, kind, connection)
+    fn enter(&mut self, new: NewSession, connection: C) -> Result<(u64, u16), EnterFault> {
+        self.enter(new, connection)
     }
 
     fn lives(&self, tsih: u16, name: &[u8], isid: u64) -> bool {
@@ -123,12 +106,10 @@ impl<C: Connection, T: Living<C>> Sessions<C> for Mutex<T> {
     fn enter<R: Wait>(
         &self,
         rt: &R,
-        port: PortName,
-        group: Group,
-        kind: SessionType,
+        new: NewSession,
         connection: C,
     ) -> Result<(u64, u16), EnterFault> {
-        self.lock(rt).enter(port, group, kind, connection)
+        self.lock(rt).enter(new, connection)
     }
 
     fn lives<R: Wait>(&self, rt: &R, tsih: u16, name: &[u8], isid: u64) -> bool {

@@ -12,7 +12,7 @@ ghost use Rattle.portal.specs.declared.target.BeginFault.TheVariants as faults;
 use crate::connection::Connection;
 use crate::device::{TargetDevice, Turn};
 use crate::gate::Gate;
-use crate::live::EnterFault;
+use crate::live::{EnterFault, NewSession};
 use crate::sessions::Sessions;
 use crate::unit_session::UnitSession;
 use crate::units::{LogicalUnits, Pass};
@@ -243,17 +243,15 @@ fn attach_all<R: Wait, U: LogicalUnits<P, H>, P: Pass, H: Drop>(
 fn enter<R: Wait, S: Sessions<C>, C: Connection>(
     rt: &R,
     sessions: &S,
-    port: PortName,
-    group: Group,
-    kind: SessionType,
+    new: NewSession,
     connection: C,
 ) -> Result<(u64, u16), EnterFault>
-    ensures entered { IfOk result (λ r. S.says.entered (through port group) kind r.0 r.1) }
+    ensures entered { IfOk result (λ r. S.says.entered (through new.port new.group) new.kind r.0 r.1) }
     ensures tsih { IfOk result (λ r. 0 < r.1) }
     ensures refused { IfErr result S.says.refused }
 {
     connection.end_limit();
-    sessions.enter(rt, port, group, kind, connection)
+    sessions.enter(rt, new, connection)
 }
 
 // Attaches a normal session, which has its turn, to all units; then it begins to live: its number and its TSIH. Where a unit or the
@@ -294,7 +292,12 @@ fn attach_and_enter<
         Ok(()) => {}
         Err(fault) => return Err(fault),
     }
-    match enter(rt, sessions, port, group, SessionType::Normal, connection) {
+    let new = NewSession {
+        port,
+        group,
+        kind: SessionType::Normal,
+    };
+    match enter(rt, sessions, new, connection) {
         Ok(entered) => Ok(entered),
         Err(fault) => {
             retire_all(rt, units, at, seen);
@@ -389,14 +392,12 @@ impl<
         ensures { HasTried U.claims S.says U.opening (record self.old { asked = false }) port SessionType.Discovery result
             self.new }
     {
-        match enter(
-            self.rt,
-            &self.device.sessions,
+        let new = NewSession {
             port,
-            self.group,
-            SessionType::Discovery,
-            connection,
-        ) {
+            group: self.group,
+            kind: SessionType::Discovery,
+        };
+        match enter(self.rt, &self.device.sessions, new, connection) {
             Ok((number, tsih)) => {
                 self.number = Some(number);
                 self.begun = true;

@@ -7,6 +7,6 @@ use Rattle.portal.proofs.live.replace.Goals as goal
 
 pub returns : goal.returns
 returns g c =
-    let kept : c.retain.new.self.items ≡ others (through c.args.new.port c.args.new.group) c.args.new.kind c.args.live.now.items =
+    let kept : c.retain.new.self.items ≡ others (through c.args.new.begun.port c.args.new.begun.group) c.args.new.begun.kind c.args.live.now.items =
     filter_same _ _ _ (λ x b f' k. search rules) _ _ c.retain.ensures.filtered in
     c.push_reserved.ensures.items ∙ ap (λ (ss : List (LiveSession _)). ss ++ c.args.new ∷ []) kept

@@ -9,14 +9,14 @@ use Rattle.portal.proofs.live.Table.enter.Goals as goal
 entered : {C : Type 0} (now old : TableValue C) (before live : List (LiveSession C)) (session : LiveSession C) → now ≡ old
     → before ≡ now.live
     → IsNextTsih handle_of now.last now.live session.tsih → session.number ≡ now.begun
-    → live ≡ others (through session.port session.group) session.kind before ++ session ∷ []
+    → live ≡ others (through session.begun.port session.begun.group) session.begun.kind before ++ session ∷ []
     → HasEntered old (record { live = live; last = session.tsih; begun = now.begun + 1 }) session
 entered now old before live session is same next number lives =
     subst (λ t. HasEntered t (record { live = live; last = session.tsih; begun = now.begun + 1 }) session) is (record {
       next = next;
       number = number;
       table = ap (λ l. record { live = l; last = session.tsih; begun = now.begun + 1 })
-          (lives ∙ ap (λ l. others (through session.port session.group) session.kind l ++ session ∷ []) same);
+          (lives ∙ ap (λ l. others (through session.begun.port session.begun.group) session.begun.kind l ++ session ∷ []) same);
     })
 
 pub returns-clause-entered : goal.returns-clause-entered
