@@ -48,36 +48,6 @@ fn lane<B: Blocks, F: Blocks, O: Opener<B>, N: Array<Opened>, R: Wait>(
     desk.group()
 }
 
-// Starts one lane of a group's controller.
-fn start_lane<
-    N: Array<Opened> + Send + Sync + 'static,
-    B: Blocks + Send + Sync + 'static,
-    F: Blocks + Send + Sync + 'static,
-    O: Opener<B> + Send + Sync + 'static,
-    G: Gate + Drop + Send + Sync + 'static,
-    R: Threads + Wait + Clone + Drop + Send + 'static,
-    S: Stacks,
->(
-    rt: &R,
-    alloc: Global,
-    server: &Arc<Server<Controllers<B, F, O, N>, G>, Global>,
-    group: Group,
-    stacks: &mut S,
-) -> Result<Lane, NoMemory>
-    ensures { IfOk result (λ lane. lane.promise.group ≡ group) }
-{
-    let server = Arc::try_clone(server)?;
-    let mine = rt.clone()?;
-    let work = move || lane(&mine, alloc, &server.device.units, group);
-    match Builder::new()
-        .stack_size(stacks.next_stack())
-        .spawn_with(rt, AtDesk { group }, work)
-    {
-        Ok(lane) => Ok(lane),
-        Err(_) => Err(NoMemory),
-    }
-}
-
 /// Starts the lanes of a group's controller, as many as serve a desk. They end behind its close.
 pub fn start_lanes<
     N: Array<Opened> + Send + Sync + 'static,
@@ -96,10 +66,19 @@ pub fn start_lanes<
 ) -> Result<[Lane; 4], NoMemory>
     ensures { IfOk result (AreLanesOf group) }
 {
-    Ok([
-        start_lane::<N, B, F, O, G, R, S>(rt, alloc, server, group, stacks)?,
-        start_lane::<N, B, F, O, G, R, S>(rt, alloc, server, group, stacks)?,
-        start_lane::<N, B, F, O, G, R, S>(rt, alloc, server, group, stacks)?,
-        start_lane::<N, B, F, O, G, R, S>(rt, alloc, server, group, stacks)?,
-    ])
+    let mut start = || -> Result<Lane, NoMemory>
+        ensures { IfOk result (λ lane. lane.promise.group ≡ group) }
+    {
+        let server = Arc::try_clone(server)?;
+        let mine = rt.clone()?;
+        let work = move || lane(&mine, alloc, &server.device.units, group);
+        match Builder::new()
+            .stack_size(stacks.next_stack())
+            .spawn_with(rt, AtDesk { group }, work)
+        {
+            Ok(lane) => Ok(lane),
+            Err(_) => Err(NoMemory),
+        }
+    };
+    Ok([start()?, start()?, start()?, start()?])
 }
