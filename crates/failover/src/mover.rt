@@ -102,10 +102,15 @@ impl<B: Blocks, F: Blocks, O: Opener<B>, N: Array<Opened>> Kept<B, F, O, N> {
 }
 
 /// Moves the units of an array, and keeps each move that is asked. It takes no memory.
-#[derive(Drop)]
 pub struct Mover<'a, B: Blocks, F: Blocks, O: Opener<B>, N: Array<Opened>> {
     units: &'a Units<B, F, O, N>,
     kept: Kept<B, F, O, N>,
+}
+
+impl<B: Blocks, F: Blocks, O: Opener<B>, N: Array<Opened>> Drop for Mover<'_, B, F, O, N> {
+    fn drop(self) {
+        let Self { units: _, kept: _ } = self;
+    }
 }
 
 impl<'a, B: Blocks, F: Blocks, O: Opener<B>, N: Array<Opened>> Model for Mover<'a, B, F, O, N> {

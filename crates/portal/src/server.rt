@@ -41,7 +41,6 @@ const ENFILE: i32 = 23;
 pub type Socket = Arc<TcpStream, Global>;
 
 /// A target device that is reached through portals.
-#[derive(Drop)]
 pub struct Server<U: Drop, G: Drop> {
     /// Its units and its sessions.
     pub device: TargetDevice<U, G, Mutex<Table<Socket>>>,
@@ -53,6 +52,18 @@ pub struct Server<U: Drop, G: Drop> {
     pub second: Vec<SocketAddrV4>,
     /// What happens is told to it.
     pub log: Log,
+}
+
+impl<U: Drop, G: Drop> Drop for Server<U, G> {
+    fn drop(self) {
+        let Self {
+            device: _,
+            target_name: _,
+            first: _,
+            second: _,
+            log: _,
+        } = self;
+    }
 }
 
 // The address that initiators are told of a portal: its own, or that which a connection reached.
