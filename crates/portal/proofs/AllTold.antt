@@ -126,42 +126,28 @@ alike_one sessions s e (f ∷ g ∷ k) none is = absurd is.2
 
 -- ---- what one session has done, in states
 
-abbrev IsIn : UnitState → Entry → Done → Type 0
-IsIn x (Attach nexus) done = ⊥
-IsIn x (Detach session) done = ⊥
-IsIn x (Reset session) (replied asked bytes reply) = ⊥
-IsIn x (Reset session) was_reset = Unit {0}
-IsIn x (Move list choice) done = ⊥
-IsIn x (Command session serial by asked bytes choice) (replied told came reply) =
-    (came ≡ bytes) × (told ≡ asked) × IsReplyTo false x (Command session serial by asked bytes choice) reply
-IsIn x (Command session serial by asked bytes choice) was_reset = ⊥
-
 module _ (s : UnitState) where
-  into_states : (h : List Entry) (e : Entry) (d : Done) → IsEntry any_device never s h e d → IsIn (state_after s h) e d
-  into_states h (Attach nexus) d is = absurd is
-  into_states h (Detach session) d is = absurd is
-  into_states h (Reset session) (replied asked bytes reply) is = absurd is
-  into_states h (Reset session) was_reset is = tt
-  into_states h (Move list choice) d is = absurd is
-  into_states h (Command session serial by asked bytes choice) was_reset is = absurd is
-  into_states h (Command session serial by asked bytes choice) (replied told came reply) is =
+  -- what an entry stands for behind one history it stands for behind another that leaves the same state
+  same_entry : (h k : List Entry) (e : Entry) (d : Done) → state_after s k ≡ state_after s h → IsEntry any_device never s h e d
+      → IsEntry any_device never s k e d
+  same_entry h k (Attach nexus) d same is = absurd is
+  same_entry h k (Detach session) d same is = absurd is
+  same_entry h k (Reset session) (replied asked bytes reply) same is = absurd is
+  same_entry h k (Reset session) was_reset same is = tt
+  same_entry h k (Move list choice) d same is = absurd is
+  same_entry h k (Command session serial by asked bytes choice) was_reset same is = absurd is
+  same_entry h k (Command session serial by asked bytes choice) (replied told came reply) same is =
       ⊎_elim
       (λ (exact : (told ≡ asked) × _). (
         is.0,
-        exact.0,
-        reply_at_end false s h (Command session serial by asked bytes choice) reply exact.1,
+        inl (
+          exact.0,
+          told_at_end false s k (Command session serial by asked bytes choice) reply
+              (subst (λ (x : UnitState). IsReplyTo false x (Command session serial by asked bytes choice) reply) (sym same)
+              (reply_at_end false s h (Command session serial by asked bytes choice) reply exact.1)),
+        ),
       ))
       (λ (late : IsLate any_device never s h session serial by asked bytes choice told reply). absurd (false≢true late.is_late)) is.1
-
-  out_of_states : (h : List Entry) (e : Entry) (d : Done) → IsIn (state_after s h) e d → IsEntry any_device never s h e d
-  out_of_states h (Attach nexus) d is = absurd is
-  out_of_states h (Detach session) d is = absurd is
-  out_of_states h (Reset session) (replied asked bytes reply) is = absurd is
-  out_of_states h (Reset session) was_reset is = tt
-  out_of_states h (Move list choice) d is = absurd is
-  out_of_states h (Command session serial by asked bytes choice) was_reset is = absurd is
-  out_of_states h (Command session serial by asked bytes choice) (replied told came reply) is =
-      (is.0, inl (is.1, told_at_end false s h (Command session serial by asked bytes choice) reply is.2))
 
   module _ (session : ℕ) (sessions : ℕ → Type 0) (other : sessions session → ⊥) where
     -- its entries are its own in a history that differs from this one in entries of others alone
@@ -195,7 +181,7 @@ module _ (s : UnitState) where
         it d is entry =
             ⊎_elim
             (λ (eq : f ≡ e). subst (λ (x : Entry). IsEntry any_device never s k x d) (sym eq)
-            (out_of_states k e d (subst (λ (x : UnitState). IsIn x e d) (sym same) (into_states h e d entry))))
+            (same_entry h k e d same entry))
             (λ (p : (is_own session e ≡ false) × (is_own session f ≡ false)). absurd (false≢true (sym p.0 ∙ is)))
             (pair_apart sessions session e f other alike.0)
 

@@ -37,6 +37,14 @@ itself n = ⊎_elim (λ (t : (nat_eq n n ≡ true) × (n ≡ n)). t.0)
 pub one_more : (session : ℕ) (e : Entry) (more : List Entry) → counted own session (e ∷ more) ≡ own session e + counted own session more
 one_more session e more = let q = sum_by-append (own session) (e ∷ []) more in omega arith
 
+-- of what came behind what was seen no entry is the session's own, where it has as many as before
+pub none_own : (session : ℕ) (seen more history : List Entry) → seen ++ more ≡ history
+    → counted own session history ≡ counted own session seen → counted own session more ≡ 0
+none_own session seen more history is same =
+    let q = sum_by-append (own session) seen more in
+    let r = ap (counted own session) is in
+    omega arith
+
 module _ (claims : Claims) (late : Late) (s : UnitState) (session : ℕ) where
   -- entries of others alone are none of its own
   pub none_of : (before more : List Entry) → counted own session more ≡ 0 → AreEntries claims late s session before [] more
@@ -111,16 +119,12 @@ module _ (claims : Claims) (late : Late) (s : UnitState) where
 
   pub grows_later : (old new : Known Entry) → IsRefused own (IsHistory claims.contents s) old new → Grows old new []
   grows_later old new is =
-      let q = sum_by-append (own old.session) old.seen is.0.0 in
-      let r = ap (counted own old.session) is.0.1 in
-      let c = is.1 in
-      let none : counted own old.session is.0.0 ≡ 0 = omega arith in
       record {
         more = is.0.0;
         seen = sym is.0.1;
         legal = is.2;
         session = is.3;
-        entries = none_of claims late s old.session old.seen is.0.0 none;
+        entries = none_of claims late s old.session old.seen is.0.0 (none_own old.session old.seen is.0.0 new.seen is.0.1 is.1);
       }
 
   -- a pass that is as it was

@@ -2,18 +2,17 @@
 use Rattle.std.proofs.Common.{◌≡◌, ℕ, All, zero, suc, ◌<◌, length, remove, append-nil, List, [], ◌∷◌, ◌++◌, Some}
 use Rattle.std.proofs.Common.{refl, sym, ap, ◌∙◌, subst, append_assoc, ⊎_elim, inl, inr, arith}
 use Rattle.std.proofs.lemmas.List.Elements.{All-tail}
-use Rattle.std.proofs.lemmas.List.Sums.{sum_by-append}
 use Rattle.std.specs.Prelude.{slice_get, slice_index_or}
 use Rattle.unit_lock.specs.Calls.{Known}
-use Rattle.status.specs.Views.{counted}
 use Rattle.unit_history.specs.Calls.{HasRetired, WasGone}
-use Rattle.unit_entries.specs.Histories.{IsHistory, own}
+use Rattle.unit_entries.specs.Histories.{IsHistory}
 use Rattle.unit_control.specs.Entry.{Entry, Detach}
 use Rattle.unit_control.specs.State.{UnitState}
 use Rattle.portal.specs.Units.{Claims, IsRetired}
 use Rattle.portal.specs.Entries.{IsLast}
 use Rattle.portal.specs.Submitted.{At}
 use Rattle.portal.specs.Target.{Sight, AreOver, IsOverAt}
+use Rattle.portal.proofs.Chains.{none_own}
 
 module _ (claims : Claims) (s : UnitState) where
   -- behind all that its pass had seen there is nothing of its own but its end
@@ -37,15 +36,11 @@ module _ (claims : Claims) (s : UnitState) where
       → Ended old history
   by_another old new history seen is =
       let r = is.0 in
-      let q = sum_by-append (own old.session) old.seen r.0.0 in
-      let e = ap (counted own old.session) r.0.1 in
-      let c = r.1 in
-      let none : counted own old.session r.0.0 ≡ 0 = omega arith in
       record {
         rest = r.0.0;
         is = sym seen ∙ sym r.0.1;
         legal = subst (λ (h : List Entry). IsHistory claims.contents s h) seen r.2;
-        last = inl none;
+        last = inl (none_own old.session old.seen r.0.0 new.seen r.0.1 r.1);
       }
 
   pub ended : (old : Known Entry) (history : List Entry) → IsRetired claims s old history → Ended old history
