@@ -35,7 +35,7 @@ pub use lanes::{AtDesk, Lane, start_lanes};
 pub use live::{EnterFault, LiveSession, NewSession, Table};
 pub use logged_target::{LoggedTarget, Visitor};
 pub use observer::Observer;
-pub use server::{Server, Socket, Stop, listen};
+pub use server::{Server, Socket, Stop, accept, listen};
 pub use sessions::{Living, Sessions};
 pub use stacks::{SmallStacks, Stacks};
 pub use target::{BeginFault, SessionTarget};

@@ -327,28 +327,37 @@ fn tell_wanting<R: Clock>(rt: &R, log: &Log, wanting: Option<Resource>, is_told:
     }
 }
 
-// Accepts connections at a portal, and starts a worker for each, until the portal is stopped. An accept that fails for want of a
-// descriptor, or by a peer that went away, is no end; nor is a connection for which there is no thread, which is closed.
-fn accept<R: Clock, W: FnMut(TcpStream) -> io::Result<()>>(
+/// Accepts connections by a portal of a group, a worker each, until the portal is stopped. An accept that fails for want of a
+/// descriptor, or by a peer that went away, is no end; nor is a connection for which there is no thread, which is closed.
+pub fn accept<
+    R: Threads + Wait + Clock + Clone + Drop + Send + 'static,
+    U: LogicalUnits<P, H> + Drop + Send + Sync + 'static,
+    G: Gate + Drop + Send + Sync + 'static,
+    P: Pass + Send + 'static,
+    H: Drop + Send + 'static,
+    S: Stacks,
+>(
     rt: &R,
-    log: &Log,
+    alloc: Global,
     listener: &TcpListener,
-    mut start: W,
-)
-    requires { W.IsAlwaysCallable start }
-{
+    server: &Arc<Server<U, G>, Global>,
+    group: Group,
+    stacks: &mut S,
+) {
     // What was wanting is told once, until a connection is served again.
     let mut is_told = false;
     for stream in listener.incoming() {
         let wanting = match stream {
-            Ok(stream) => wanting_of(start(stream)),
+            Ok(stream) => wanting_of(start::<R, U, G, P, H, S>(
+                rt, alloc, server, group, stream, stacks,
+            )),
             Err(e) => match failed_accept(rt, e) {
                 NotAccepted::Stopped => return,
                 NotAccepted::GoneAway => continue,
                 NotAccepted::Wanting(what) => Some(what),
             },
         };
-        is_told = tell_wanting(rt, log, wanting, is_told);
+        is_told = tell_wanting(rt, &server.log, wanting, is_told);
     }
 }
 
@@ -372,9 +381,7 @@ pub fn listen<
     let mine = rt.clone()?;
     let mut stacks = stacks;
     let work = move || {
-        accept(&mine, &server.log, &listener, |stream| {
-            start::<R, U, G, P, H, S>(&mine, alloc, &server, group, stream, &mut stacks)
-        })
+        accept::<R, U, G, P, H, S>(&mine, alloc, &listener, &server, group, &mut stacks)
     };
     Builder::new().stack_size(STACK).spawn(rt, work)
 }
