@@ -4,6 +4,7 @@
 
 mod calls;
 mod digits;
+mod forms;
 mod lines;
 mod logins;
 mod named;
@@ -12,6 +13,7 @@ mod rows;
 mod texts;
 
 pub use calls::{Calls, FakeReader, FakeWriter, ONE_BYTE, WHOLE};
+pub use forms::filled;
 pub use lines::{Texts, bytes_of, lines_of, pdu_of};
 pub use rows::RowError;
 pub use texts::{HOST_A, LIBISCSI_AGREED, LIBISCSI_OFFERS, THE_TARGET, WELCOME};

@@ -1,73 +1,34 @@
 //! Logins that are refused at a later request (RFC 7143, 6.2, 6.3 and 11.13.5).
-pub fn flags() -> &'static str {
-    r#"
-stage 1, where stage 0 stays
-login 1
-> LOGIN 1:00 7:43 NAMES
-> LOGIN
-> LOGIN 7:56 HOST_A
-< LOGGED_IN 1:00 7:17 14:0000 "TargetPortalGroupTag=1\0"
-< LOGIN_REFUSED 24:00000002
-end LoginRefused 0200
+use crate::sessions::run::Form;
 
-stage 0, where stage 1 is next
+/// The flags of the first of two requests, what the second one has, and the refusal with its status: for flags, and for texts.
+pub fn refused() -> Form {
+    let form = r#"
+[0]
 login 1
-> LOGIN 1:81 7:43 NAMES
-> LOGIN 1:81
+> LOGIN [1] 7:43 NAMES
+> LOGIN [2]
 > LOGIN 7:56 HOST_A
-< LOGGED_IN 1:81 7:17 14:0000 "TargetPortalGroupTag=1\0"
-< LOGIN_REFUSED 1:00 24:00000002
-end LoginRefused 0200
-
-stage 3, where stage 1 is next
-login 1
-> LOGIN 1:81 7:43 NAMES
-> LOGIN 1:8F
-> LOGIN 7:56 HOST_A
-< LOGGED_IN 1:81 7:17 14:0000 "TargetPortalGroupTag=1\0"
-< LOGIN_REFUSED 1:0C 24:00000002
-end LoginRefused 0200
-
-T with C
-login 1
-> LOGIN 1:00 7:43 NAMES
-> LOGIN 1:C1
-> LOGIN 7:56 HOST_A
-< LOGGED_IN 1:00 7:17 14:0000 "TargetPortalGroupTag=1\0"
-< LOGIN_REFUSED 1:00 24:00000002
-end LoginRefused 0200
-
-from stage 1 to stage 1
-login 1
-> LOGIN 1:81 7:43 NAMES
-> LOGIN 1:85
-> LOGIN 7:56 HOST_A
-< LOGGED_IN 1:81 7:17 14:0000 "TargetPortalGroupTag=1\0"
-< LOGIN_REFUSED 24:00000002
-end LoginRefused 0200
-"#
+< LOGGED_IN [1] 7:17 14:0000 "TargetPortalGroupTag=1\0"
+< LOGIN_REFUSED [3]
+end LoginRefused [4]
+"#;
+    let rows = r#"
+stage 1, where stage 0 stays; 1:00;; 24:00000002; 0200
+stage 0, where stage 1 is next; 1:81; 1:81; 1:00 24:00000002; 0200
+stage 3, where stage 1 is next; 1:81; 1:8F; 1:0C 24:00000002; 0200
+T with C; 1:00; 1:C1; 1:00 24:00000002; 0200
+from stage 1 to stage 1; 1:81; 1:85; 24:00000002; 0200
+a pair without =; 1:81; 7:04 "X-a\0"; 24:00000002; 0200
+a last pair without its zero byte; 1:81; 7:10 "ImmediateData=No"; 24:00000002; 0200
+a key twice; 1:81; 7:22 "ImmediateData=No\0ImmediateData=No\0"; 24:00000002; 0200
+AuthMethod without None; 1:00; 1:81 7:10 "AuthMethod=CHAP\0"; 1:00 24:00000002 37:01; 0201
+"#;
+    (form, rows)
 }
 
-pub fn texts() -> &'static str {
+pub fn keys() -> &'static str {
     r#"
-a pair without =
-login 1
-> LOGIN 1:81 7:43 NAMES
-> LOGIN 7:04 "X-a\0"
-> LOGIN 7:56 HOST_A
-< LOGGED_IN 1:81 7:17 14:0000 "TargetPortalGroupTag=1\0"
-< LOGIN_REFUSED 24:00000002
-end LoginRefused 0200
-
-a last pair without its zero byte
-login 1
-> LOGIN 1:81 7:43 NAMES
-> LOGIN 7:10 "ImmediateData=No"
-> LOGIN 7:56 HOST_A
-< LOGGED_IN 1:81 7:17 14:0000 "TargetPortalGroupTag=1\0"
-< LOGIN_REFUSED 24:00000002
-end LoginRefused 0200
-
 a key of an earlier request
 login 1
 > LOGIN 1:00 7:54 NAMES "ImmediateData=No\0"
@@ -77,28 +38,6 @@ login 1
 < LOGIN_REFUSED 1:00 24:00000002
 end LoginRefused 0200
 
-a key twice
-login 1
-> LOGIN 1:81 7:43 NAMES
-> LOGIN 7:22 "ImmediateData=No\0ImmediateData=No\0"
-> LOGIN 7:56 HOST_A
-< LOGGED_IN 1:81 7:17 14:0000 "TargetPortalGroupTag=1\0"
-< LOGIN_REFUSED 24:00000002
-end LoginRefused 0200
-
-AuthMethod without None
-login 1
-> LOGIN 1:00 7:43 NAMES
-> LOGIN 1:81 7:10 "AuthMethod=CHAP\0"
-> LOGIN 7:56 HOST_A
-< LOGGED_IN 1:00 7:17 14:0000 "TargetPortalGroupTag=1\0"
-< LOGIN_REFUSED 1:00 24:00000002 37:01
-end LoginRefused 0201
-"#
-}
-
-pub fn limits() -> &'static str {
-    r#"
 64 pairs, and one more
 login 1
 > LOGIN 1:00 6:0179 NAMES "k00=\0k01=\0k02=\0k03=\0k04=\0k05=\0k06=\0k07=\0k08=\0k09=\0k10=\0k11=\0k12=\0k13=\0k14=\0"

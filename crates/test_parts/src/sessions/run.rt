@@ -9,7 +9,7 @@ use std::io::ErrorKind;
 use std::net::{Ipv4Addr, SocketAddrV4};
 use std::process::Abort;
 use std::test::*;
-use test_connections::{Calls, FakeReader, FakeWriter, ONE_BYTE, WHOLE};
+use test_connections::{Calls, FakeReader, FakeWriter, ONE_BYTE, WHOLE, filled, lines_of};
 
 /// How a session ended, what it wrote and by how many bytes a call, and what its target was asked and given.
 #[derive(Drop)]
@@ -27,6 +27,9 @@ pub fn portal(port: u16) -> SocketAddrV4 {
 
 /// A table: its name, and its rows.
 pub type Table = (&'static str, &'static str);
+
+/// A table whose rows are of a form: the form, and of each row the line that fills it (`filled`), whose first part is the name.
+pub type Form = (&'static str, &'static str);
 
 /// Appends these bytes.
 pub fn put(rt: &impl Abort, out: &mut Vec<u8>, bytes: &[u8]) {
@@ -132,6 +135,17 @@ fn run_text(rt: &impl Abort, alloc: Global, table: &str, text: &str) -> bool {
         run_row(rt, alloc, &row);
     }
     is_row
+}
+
+/// Serves each row of a table of a form, and compares.
+pub fn run_form(rt: &impl Abort, alloc: Global, table: &str, (form, rows): Form) {
+    let rows = lines_of(alloc, rows).expect(rt, "memory");
+    must(rt, !rows.is_empty(), table, &"a table has a row");
+    for parts in &rows {
+        let text = filled(alloc, form, parts).expect(rt, parts);
+        let is_row = run_text(rt, alloc, table, text.as_str());
+        must(rt, is_row, table, parts);
+    }
 }
 
 /// The most bytes of an input that is cut at each of its places.

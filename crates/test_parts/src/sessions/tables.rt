@@ -1,6 +1,7 @@
 //! The tables whose rows are served alike, a few in a test. The text of a table is what a function of its module returns: a
 //! constant is written out at each step of a function that names it, where that is proved.
-use crate::sessions::run::{Table, run};
+use crate::sessions::run::{Form, run, run_form};
+use crate::sessions::tables::Serve::{Alike, Rows};
 use crate::sessions::{
     answers, data_out_faults, data_outs, discovery, first_commands, libiscsi, login_faults,
     login_later, login_names, login_others, login_refusals, login_requests, login_texts, logins,
@@ -11,10 +12,20 @@ use std::alloc::Global;
 use std::process::Abort;
 use std::test::*;
 
+/// A table by its name: of rows, or of a form and the lines that fill it.
+#[derive(Clone, Copy)]
+enum Serve {
+    Rows(&'static str, &'static str),
+    Alike(&'static str, Form),
+}
+
 // Serves each row of these tables.
-fn run_all<R: Abort>(rt: &R, alloc: Global, tables: &[Table]) {
+fn run_all<R: Abort>(rt: &R, alloc: Global, tables: &[Serve]) {
     for table in tables {
-        run(rt, alloc, *table);
+        match *table {
+            Rows(name, rows) => run(rt, alloc, (name, rows)),
+            Alike(name, form) => run_form(rt, alloc, name, form),
+        }
     }
 }
 
@@ -24,10 +35,10 @@ fn what_initiators_ask_first(rt: HostRuntime) {
         &rt,
         rt.alloc(),
         &[
-            ("discovery", discovery::served()),
-            ("rejected in discovery", discovery::rejected()),
-            ("the first commands", first_commands::rows()),
-            ("what libiscsi sends", libiscsi::rows()),
+            Rows("discovery", discovery::served()),
+            Rows("rejected in discovery", discovery::rejected()),
+            Rows("the first commands", first_commands::rows()),
+            Rows("what libiscsi sends", libiscsi::rows()),
         ],
     );
 }
@@ -38,10 +49,10 @@ fn logins_of_one_request_and_of_several(rt: HostRuntime) {
         &rt,
         rt.alloc(),
         &[
-            ("one request", logins::one_request()),
-            ("the longest name", logins::longest_name()),
-            ("several requests", login_requests::rows()),
-            ("what open iscsi sends", open_iscsi::rows()),
+            Rows("one request", logins::one_request()),
+            Rows("the longest name", logins::longest_name()),
+            Rows("several requests", login_requests::rows()),
+            Rows("what open iscsi sends", open_iscsi::rows()),
         ],
     );
 }
@@ -52,10 +63,9 @@ fn later_requests_of_a_login(rt: HostRuntime) {
         &rt,
         rt.alloc(),
         &[
-            ("flags of later requests", login_later::flags()),
-            ("texts of later requests", login_later::texts()),
-            ("limits of a negotiation", login_later::limits()),
-            ("runs that are refused", login_later::runs()),
+            Rows("keys and limits of a negotiation", login_later::keys()),
+            Rows("runs that are refused", login_later::runs()),
+            Alike("flags and texts of later requests", login_later::refused()),
         ],
     );
 }
@@ -66,11 +76,11 @@ fn names_in_a_login(rt: HostRuntime) {
         &rt,
         rt.alloc(),
         &[
-            ("names that are missing", login_names::missing()),
-            ("targets that are not there", login_names::targets()),
-            ("sessions that are named", login_names::sessions()),
-            ("what comes last", login_names::methods()),
-            ("texts", login_texts::rows()),
+            Rows("names that are missing", login_names::missing()),
+            Rows("targets that are not there", login_names::targets()),
+            Rows("sessions that are named", login_names::sessions()),
+            Rows("what comes last", login_names::methods()),
+            Rows("texts", login_texts::rows()),
         ],
     );
 }
@@ -81,11 +91,13 @@ fn logins_that_are_refused_or_end(rt: HostRuntime) {
         &rt,
         rt.alloc(),
         &[
-            ("a fault first", login_faults::first()),
-            ("a fault behind a request", login_faults::second()),
-            ("another pdu first", login_others::first()),
-            ("another pdu behind a request", login_others::second()),
-            ("flags and versions", login_refusals::rows()),
+            Rows("numbers of a fault", login_faults::numbers()),
+            Rows("other pdus", login_others::rows()),
+            Rows("flags and versions", login_refusals::rows()),
+            Alike("a fault first", login_faults::first()),
+            Alike("a fault behind a request", login_faults::second()),
+            Alike("another pdu first", login_others::first()),
+            Alike("another pdu behind a request", login_others::second()),
         ],
     );
 }
@@ -96,8 +108,10 @@ fn lengths_that_were_negotiated(rt: HostRuntime) {
         &rt,
         rt.alloc(),
         &[
-            ("reads by negotiated lengths", negotiated_reads::rows()),
-            ("writes by negotiated lengths", negotiated_writes::rows()),
+            Rows("the longest Data-In and a NOP-In", negotiated_reads::rows()),
+            Rows("writes by negotiated lengths", negotiated_writes::rows()),
+            Alike("reads by negotiated lengths", negotiated_reads::in_runs()),
+            Alike("reads by the usual lengths", negotiated_reads::at_once()),
         ],
     );
 }
@@ -108,13 +122,13 @@ fn data_in_and_out(rt: HostRuntime) {
         &rt,
         rt.alloc(),
         &[
-            ("faults of data out", data_out_faults::faults()),
-            ("data out and its task", data_outs::rows()),
-            ("writes that collect", r2ts::rows()),
-            ("a write of a megabyte", long_write::megabyte()),
-            ("residuals with r2t", r2ts::residuals()),
-            ("reads", reads::rows()),
-            ("runs", runs::rows()),
+            Rows("data out and its task", data_outs::rows()),
+            Rows("writes that collect", r2ts::rows()),
+            Rows("a write of a megabyte", long_write::megabyte()),
+            Rows("residuals with r2t", r2ts::residuals()),
+            Rows("reads", reads::rows()),
+            Rows("runs", runs::rows()),
+            Alike("faults of data out", data_out_faults::faults()),
         ],
     );
 }
@@ -125,11 +139,12 @@ fn answers_and_rejects(rt: HostRuntime) {
         &rt,
         rt.alloc(),
         &[
-            ("answers of a target", answers::rows()),
-            ("logout", logout::rows()),
-            ("nop out", nop::rows()),
-            ("rejects", rejects::rows()),
-            ("residuals", residuals::rows()),
+            Rows("answers of a target", answers::rows()),
+            Rows("logout", logout::rows()),
+            Rows("nop out", nop::rows()),
+            Rows("rejects", rejects::rows()),
+            Rows("residuals", residuals::rows()),
+            Alike("residuals of reads", residuals::reads()),
         ],
     );
 }
@@ -140,10 +155,13 @@ fn sessions_with_tasks(rt: HostRuntime) {
         &rt,
         rt.alloc(),
         &[
-            ("a write that waits", task_management::waiting()),
-            ("task management", task_management::rows()),
-            ("tasks at once", tasks::rows()),
-            ("a full window of writes", tasks::behind_32()),
+            Rows("a write that waits", task_management::waiting()),
+            Rows("task management", task_management::rows()),
+            Rows("tasks at once", tasks::rows()),
+            Rows("a full window of writes", tasks::behind_32()),
+            Alike("requests", task_management::requests()),
+            Alike("a write that is dropped", task_management::dropped()),
+            Alike("a write that is left", task_management::left()),
         ],
     );
 }
@@ -154,9 +172,9 @@ fn text_and_the_window(rt: HostRuntime) {
         &rt,
         rt.alloc(),
         &[
-            ("text", text::rows()),
-            ("refused in text and discovery", text::refused()),
-            ("the window", window::rows()),
+            Rows("text", text::rows()),
+            Rows("refused in text and discovery", text::refused()),
+            Rows("the window", window::rows()),
         ],
     );
 }

@@ -1,5 +1,5 @@
 //! The unit of a script, and its devices.
-use crate::units::device::{Failing, FailingBlocks};
+use crate::units::device::{Failing, FailingBlocks, crashed};
 use crate::units::ended::Ended;
 use crate::units::reg_file::files::{OPEN_CALLS, formatted};
 use crate::units::rows::Row;
@@ -79,9 +79,9 @@ impl Bench {
         blocks: MemBlocks,
         file: MemBlocks,
     ) -> Bench {
-        let blocks = FailingBlocks::new(alloc, blocks, faults.disk).expect(rt, "memory");
-        let failing = from_the_open(faults.file);
-        let file = FailingBlocks::new(alloc, file, failing).expect(rt, "memory");
+        let blocks = faults.disk.device(alloc, blocks).expect(rt, "memory");
+        let file = from_the_open(faults.file).device(alloc, file);
+        let file = file.expect(rt, "memory");
         let opener = FusedOpener::new(KeepOpener, faults.opens);
         let unit = opened(rt, alloc, place, blocks, file, opener);
         Bench {
@@ -104,7 +104,7 @@ impl Bench {
     pub fn lose_power(self, pick: Pick) -> (MemBlocks, MemBlocks) {
         let Bench { served } = self;
         let (blocks, file, _opener) = served.into_unit().close();
-        (blocks.crash(pick), file.crash(pick))
+        (crashed(blocks, pick), crashed(file, pick))
     }
 }
 

@@ -1,6 +1,7 @@
 //! Tests over real files, in a folder of their own each.
 mod beside;
 mod calls;
+pub mod fake;
 mod flushes;
 mod memory;
 mod preparers;

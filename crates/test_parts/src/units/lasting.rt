@@ -1,5 +1,5 @@
 //! What of the registrations outlasts a loss of power (SPC-4, 5.13.5).
-use crate::units::run::{ONE_SESSION, run};
+use crate::units::run::{ONE_SESSION, run, run_form};
 
 // In a list of PERSISTENT RESERVE OUT, the byte 01h behind both keys and four bytes is APTPL.
 fn rows() -> &'static str {
@@ -106,42 +106,28 @@ who is registered then; send 0 5E 00 0000000000 00FF;; GOOD 8*00 | GOOD 8*00 | G
 }
 
 // 64 registrants with the key 5A5A5A5A5A5A5A5Ah, to last. All of them are found behind a restart, and hold a reservation.
-fn many() -> &'static str {
-    r#"
-64 ports, each through one group
+fn many() -> (&'static str, &'static str) {
+    let form = "[0]
 opens 0
 saves always
-numbers 0 64
+numbers 0 [1]
 a session; attach N 1;; ATTACHED 3N
 its power on; send N 00;; CHECK 06 29 00
-it registers, to last; send N 5F 00 00 0000 00000018; 8*00 8*5A 4*00 01 3*00; GOOD
+it registers, to last; send N 5F 00 00 0000 00000018; 8*00 8*5A 4*00 [2] 3*00; GOOD
 numbers 0 1
 the first reserves; send 0 5F 01 08 0000 00000018; 8*5A 16*00; GOOD
 the power is lost; restart;; DONE
 it attaches; attach 0 1;; ATTACHED 0
 the power on; send 0 00;; CHECK 06 29 00
 64 keys; send 0 5E 00 0000000000 0208;; GOOD 6*00 02 00 512*5A
-their reservation; send 0 5E 01 0000000000 00FF;; GOOD 7*00 10 13*00 08 00 00
-
-32 ports, each through both groups
-opens 0
-saves always
-numbers 0 32
-a session; attach N 1;; ATTACHED 3N
-its power on; send N 00;; CHECK 06 29 00
-it registers by every port, to last; send N 5F 00 00 0000 00000018; 8*00 8*5A 4*00 05 3*00; GOOD
-numbers 0 1
-the first reserves; send 0 5F 01 08 0000 00000018; 8*5A 16*00; GOOD
-the power is lost; restart;; DONE
-it attaches; attach 0 1;; ATTACHED 0
-the power on; send 0 00;; CHECK 06 29 00
-64 keys; send 0 5E 00 0000000000 0208;; GOOD 6*00 02 00 512*5A
-their reservation; send 0 5E 01 0000000000 00FF;; GOOD 7*00 10 13*00 08 00 00
-"#
+their reservation; send 0 5E 01 0000000000 00FF;; GOOD 7*00 10 13*00 08 00 00";
+    let lines = "64 ports, each through one group; 64; 01
+32 ports, each through both groups; 32; 05";
+    (form, lines)
 }
 
 #[test]
 fn registrations_last(rt: HostRuntime) {
     run(&rt, rt.alloc(), ONE_SESSION, rows());
-    run(&rt, rt.alloc(), "", many());
+    run_form(&rt, rt.alloc(), "", many());
 }

@@ -8,7 +8,7 @@ use crash_blocks::Pick;
 use scsi_types::Sense;
 use std::alloc::Global;
 use std::process::Abort;
-use test_connections::lines_of;
+use test_connections::{filled, lines_of};
 
 /// A session through the first group that was told of the power on.
 pub const ONE_SESSION: &str = "
@@ -24,6 +24,14 @@ pub fn run(rt: &impl Abort, alloc: Global, before: &str, table: &str) {
         for n in 0..setup_of(rt, &lines, 0).times {
             play(rt, alloc, before, script, &lines, n);
         }
+    }
+}
+
+/// Plays a script for each line that fills its form, behind these rows.
+pub fn run_form(rt: &impl Abort, alloc: Global, before: &str, (form, lines): (&str, &str)) {
+    for parts in lines.lines() {
+        let script = filled(alloc, form, parts).expect(rt, parts);
+        run(rt, alloc, before, script.as_str());
     }
 }
 

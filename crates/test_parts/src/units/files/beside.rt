@@ -1,6 +1,7 @@
 //! Flushes that end well, and ran beside one that failed: they may have had its blocks in hand.
 use crate::ends::must;
-use crate::units::files::flushes::{Flushed, NODE, both_end_so};
+use crate::units::files::fake::{FakeFile, NODE};
+use crate::units::files::flushes::both_end_so;
 use block_file::Blocks;
 use disk_files::{FileBlocks, Flushes};
 use std::alloc::Global;
@@ -14,10 +15,10 @@ pub fn slow_handles(
     clock: HostRuntime,
     alloc: Global,
     fails: &[Option<u32>],
-) -> Vec<Mutex<Flushed>> {
+) -> Vec<Mutex<FakeFile>> {
     let mut handles = Vec::new(alloc);
     for fails_at in fails {
-        let handle = Mutex::new(Flushed::slow(clock, *fails_at));
+        let handle = Mutex::new(FakeFile::slow(clock, *fails_at));
         handles.push(handle).expect(rt, "memory");
     }
     handles
@@ -36,7 +37,7 @@ fn a_flush_beside_one_that_failed_is_not_believed(rt: HostRuntime) {
 // By the device, while one beside it fails.
 #[test]
 fn a_flush_of_the_device_beside_one_that_failed_is_not_believed(rt: HostRuntime) {
-    let mut device = FileBlocks::of(Flushed::slow(rt, None)).expect(&rt, "a device");
+    let mut device = FileBlocks::of(FakeFile::slow(rt, None)).expect(&rt, "a device");
     let beside = device.share(rt.alloc(), slow_handles(&rt, rt, rt.alloc(), &[Some(0)]));
     neither_is_done(&rt, &mut device, &beside.expect(&rt, "memory"));
 }
@@ -44,7 +45,7 @@ fn a_flush_of_the_device_beside_one_that_failed_is_not_believed(rt: HostRuntime)
 fn neither_is_done<B: Blocks + Send>(
     rt: &(impl Threads + Wait + Abort + Sync),
     device: &mut B,
-    beside: &Flushes<Flushed>,
+    beside: &Flushes<FakeFile>,
 ) {
     let (device, beside) = join(
         rt,

@@ -1,6 +1,6 @@
 //! A save and an open that stop at each of their calls in turn, over a file of either version, and a format.
 use crate::ends::must;
-use crate::units::device::{Failing, FailingBlocks};
+use crate::units::device::{Failing, FailingBlocks, crashed};
 use crate::units::reg_file::files::{
     OPEN_CALLS, SAVE_CALLS, block_of, holds, put, put_bytes, registry_after,
 };
@@ -76,7 +76,7 @@ fn stopping(
         lands,
         alone: u64::MAX,
     };
-    FailingBlocks::new(alloc, blocks, failing).expect(rt, "memory")
+    failing.device(alloc, blocks).expect(rt, "memory")
 }
 
 /// Opens the file, and saves over a device that stops there: where the save failed, and the blocks that these pick is left.
@@ -92,7 +92,7 @@ fn stopped(
     let (mut file, _old) = RegFile::open(alloc, device).expect(rt, "a registration file");
     let registry = registry_after(rt, alloc, REQUEST);
     let fault = file.save(&registry.lasting()).err();
-    (fault, file.close().crash(pick))
+    (fault, crashed(file.close(), pick))
 }
 
 /// Where a save fails that stops at this call, counted from 0.

@@ -5,6 +5,7 @@ use crate::units::stops::power::lose;
 use crate::units::stops::script::{Device, Script, Stop};
 use std::alloc::Global;
 use std::process::Abort;
+use test_connections::filled;
 
 // Scripts, and where each loses the power: at each call of a device from this one on and behind the last, so many times.
 fn scripts() -> &'static str {
@@ -34,49 +35,6 @@ B changes the owner; send 1 A4 0A 00000000 00000008; 7*00 02; GOOD
 B writes; forward 1 2A 00 00000005 00 0001; 512*66; GOOD | CHECK 03 0C 00; 5+1=6
 B compares; forward 1 89 08 0000000000000004 000000 02; 512*55 512*66 1024*77; GOOD | CHECK 03 0C 00 | CHECK 03 11 00; read 4+2=7 flush
 
-# Two saves, of which the first fails at its first, second, third or last call alone: where it fails at the root or behind it, the
-# next one writes the old root once more. The power is lost in the second save where the last flush failed, and else at its
-# last call and behind it.
-the write of a slot fails
-loses registrations 4 2
-blocks 7
-saves always
-alone 0
-A attaches; attach 1 1;; ATTACHED 0
-its power on; send 0 00;; CHECK 06 29 00
-A registers, and the save fails; send 0 5F 00 00 0000 00000018; 15*00 11 4*00 01 3*00; CHECK 04 44 00;; fails
-A registers; send 0 5F 00 00 0000 00000018; 15*00 22 4*00 01 3*00; GOOD | CHECK 04 44 00;; 34+33=5 flush 0+1=5 flush
-
-the flush of a slot fails
-loses registrations 5 2
-blocks 7
-saves always
-alone 1
-A attaches; attach 1 1;; ATTACHED 0
-its power on; send 0 00;; CHECK 06 29 00
-A registers, and the save fails; send 0 5F 00 00 0000 00000018; 15*00 11 4*00 01 3*00; CHECK 04 44 00;; 34+33=1 fails
-A registers; send 0 5F 00 00 0000 00000018; 15*00 22 4*00 01 3*00; GOOD | CHECK 04 44 00;; 34+33=5 flush 0+1=5 flush
-
-the write of the root fails
-loses registrations 8 2
-blocks 7
-saves always
-alone 2
-A attaches; attach 1 1;; ATTACHED 0
-its power on; send 0 00;; CHECK 06 29 00
-A registers, and the save fails; send 0 5F 00 00 0000 00000018; 15*00 11 4*00 01 3*00; CHECK 04 44 00;; 34+33=1 flush fails
-A registers; send 0 5F 00 00 0000 00000018; 15*00 22 4*00 01 3*00; GOOD | CHECK 04 44 00;; 0+1=0 flush 34+33=5 flush 0+1=5 flush
-
-the flush of the root fails
-loses registrations 4 42
-blocks 7
-saves always
-alone 3
-A attaches; attach 1 1;; ATTACHED 0
-its power on; send 0 00;; CHECK 06 29 00
-A registers, and the save fails; send 0 5F 00 00 0000 00000018; 15*00 11 4*00 01 3*00; CHECK 04 44 00;; 34+33=1 flush 0+1=1 fails
-A registers; send 0 5F 00 00 0000 00000018; 15*00 22 4*00 01 3*00; GOOD | CHECK 04 44 00;; 0+1=0 flush 34+33=5 flush 0+1=5 flush
-
 # No open is done: the first group serves on.
 a change of owner
 loses blocks 0 7
@@ -89,6 +47,26 @@ A changes the owner, and the open fails; send 0 A4 0A 00000000 00000008; 7*00 02
 A writes; send 0 2A 00 00000002 00 0001; 512*22; GOOD | CHECK 03 0C 00; 2+1=2
 A reads; send 0 28 00 00000001 00 0002;; GOOD 512*11 512*22 | | CHECK 03 11 00; read
 "
+}
+
+// Two saves, of which the first fails at its first, second, third or last call alone: where it fails at the root or behind it, the
+// next one writes the old root once more. The power is lost in the second save where the last flush failed, and else at its
+// last call and behind it. A line has the name, where the power is lost, and of the first save which call fails, and the calls of each.
+fn failing_saves() -> (&'static str, &'static str) {
+    let form = "[0]
+loses registrations [1]
+blocks 7
+saves always
+alone [2]
+A attaches; attach 1 1;; ATTACHED 0
+its power on; send 0 00;; CHECK 06 29 00
+A registers, and the save fails; send 0 5F 00 00 0000 00000018; 15*00 11 4*00 01 3*00; CHECK 04 44 00;; [3] fails
+A registers; send 0 5F 00 00 0000 00000018; 15*00 22 4*00 01 3*00; GOOD | CHECK 04 44 00;; [4] 34+33=5 flush 0+1=5 flush";
+    let lines = "the write of a slot fails; 4 2; 0
+the flush of a slot fails; 5 2; 1; 34+33=1
+the write of the root fails; 8 2; 2; 34+33=1 flush; 0+1=0 flush
+the flush of the root fails; 4 42; 3; 34+33=1 flush 0+1=1; 0+1=0 flush";
+    (form, lines)
 }
 
 // Loses the power at each call of a device from this one on, inside a run behind each number of its blocks, and once
@@ -147,5 +125,10 @@ fn each_loses(rt: &impl Abort, alloc: Global, text: &str) {
 fn at_each_call_of_a_device(rt: HostRuntime) {
     for text in scripts().split("\n\n") {
         each_loses(&rt, rt.alloc(), text);
+    }
+    let (form, lines) = failing_saves();
+    for parts in lines.lines() {
+        let text = filled(rt.alloc(), form, parts).expect(&rt, parts);
+        each_loses(&rt, rt.alloc(), text.as_str());
     }
 }
