@@ -280,22 +280,31 @@ fn read_away(file: &File, at: u64, length: usize) {
     }
 }
 
+// Reads a block of a file away, where there is one.
+fn read_block(file: &File, block: Option<u64>) {
+    if let Some((at, length)) = block.and_then(|first| place_of(first, 1)) {
+        read_away(file, at, length);
+    }
+}
+
 // Where a run of blocks lies in a file: its place and its length.
 fn place_of(first: u64, blocks: u16) -> Option<(u64, usize)> {
     let at = first.checked_mul(BLOCK_LENGTH as u64)?;
     Some((at, BLOCK_LENGTH * usize::from(blocks)))
 }
 
-// The first block of a run and its last one, where they lie in pages of which the run has only a part.
+// The first block of a run and its last one, where they lie in pages of which the run has only a part; one of them, where it is one page.
 fn edges_of(first: u64, blocks: u16) -> (Option<u64>, Option<u64>) {
     let behind = first.saturating_add(u64::from(blocks));
+    let last = behind.saturating_sub(1);
     let head = if blocks > 0 && first % PAGE != 0 {
         Some(first)
     } else {
         None
     };
-    let tail = if blocks > 0 && behind % PAGE != 0 {
-        Some(behind.saturating_sub(1))
+    let is_page_of_head = head.is_some() && first / PAGE == last / PAGE;
+    let tail = if blocks > 0 && behind % PAGE != 0 && !is_page_of_head {
+        Some(last)
     } else {
         None
     };
@@ -375,13 +384,17 @@ impl<R: Clock + Wait + Drop, F: LastingFile> Preparer for FilePreparer<R, F> {
         self.fetch_bytes(first, BLOCK_LENGTH * usize::from(blocks));
     }
 
+    // Both pages together are one look: the one that is asked for last came beside the other one.
     fn fetch_edges(&self, first: u64, blocks: u16) {
-        let (head, tail) = edges_of(first, blocks);
-        if let Some(head) = head {
-            self.fetch(head, 1);
+        let edges = edges_of(first, blocks);
+        if edges == (None, None) {
+            return;
         }
-        if let Some(tail) = tail {
-            self.fetch(tail, 1);
+        if let (Some(file), Ok(begun)) = (&self.file, self.rt.monotonic()) {
+            for edge in [edges.0, edges.1] {
+                read_block(file.handle(), edge);
+            }
+            self.took(begun, BLOCK_LENGTH);
         }
     }
 
