@@ -8,7 +8,7 @@ use event_log::Call;
 use std::alloc::{AllocError, Global};
 use std::hint::spin_loop;
 use std::io;
-use std::sync::atomic::{AtomicU64, Ordering};
+use std::sync::atomic::{AtomicBool, AtomicU64, Ordering};
 use std::sync::{Arc, Mutex, Wait};
 use std::thread::{Builder, JoinHandle, Threads};
 use std::time::{Clock, Duration};
@@ -44,6 +44,14 @@ const OVER: u64 = 5;
 /// What a thread does with an errand.
 pub(crate) trait Runner<E> {
     fn run(&mut self, errand: E) -> E;
+
+    /// Whether it has something to do behind its answer, for which nobody waits but who asks it next.
+    fn has_more(&self) -> bool {
+        false
+    }
+
+    /// Does that.
+    fn go_on(&mut self) {}
 }
 
 /// The hatch between the two.
@@ -51,11 +59,17 @@ struct Hatch<E> {
     // In a cache line of its own: one side looks at it while the other one has the errand.
     turn: CachePadded<AtomicU64>,
     errand: CachePadded<Mutex<Option<E>>>,
+    // Whether the thread has something to do behind its answer.
+    goes_on: AtomicBool,
 }
 
 impl<E: Drop> Drop for Hatch<E> {
     fn drop(self) {
-        let Self { turn: _, errand: _ } = self;
+        let Self {
+            turn: _,
+            errand: _,
+            goes_on: _,
+        } = self;
     }
 }
 
@@ -99,7 +113,7 @@ impl Looks {
 }
 
 // How much of a time is left that began then.
-fn left<R: Clock>(rt: &R, begun: Duration, patience: Duration) -> Option<Duration> {
+pub(crate) fn left<R: Clock>(rt: &R, begun: Duration, patience: Duration) -> Option<Duration> {
     let Ok(now) = rt.monotonic() else {
         return None;
     };
@@ -208,7 +222,13 @@ impl<E: Drop> Hatch<E> {
             }
             if let Some(errand) = self.take(rt) {
                 let done = runner.run(errand);
+                let has_more = runner.has_more();
+                self.goes_on.store(has_more, Ordering::Release);
                 self.answer(rt, done);
+                if has_more {
+                    runner.go_on();
+                    self.goes_on.store(false, Ordering::Release);
+                }
             }
         }
     }
@@ -264,6 +284,7 @@ impl<R: Threads + Wait + Clock + Clone + Drop + Send + 'static, E: Drop + Send +
         let hatch = Hatch {
             turn: CachePadded::new(AtomicU64::new(ANSWERED)),
             errand: CachePadded::new(Mutex::new(None)),
+            goes_on: AtomicBool::new(false),
         };
         let hatch = Arc::new(alloc, hatch)?;
         let theirs = Arc::try_clone(&hatch)?;
@@ -286,6 +307,11 @@ impl<R: Wait + Clock + Drop, E: Drop> Asker<R, E> {
     /// What all share that ask calls of the file.
     pub(crate) fn watch(&self) -> &Watch {
         &self.watch
+    }
+
+    /// Whether the thread still has something to do behind an answer.
+    pub(crate) fn goes_on(&self) -> bool {
+        self.hatch.goes_on.load(Ordering::Acquire)
     }
 
     /// Takes the errand in hand, to say what is asked. None: no call on the file is made any more.

@@ -4,8 +4,10 @@
 //! and so does each later call on that file, at once: what lands late is never seen to change anything.
 #![tactic(auto)]
 
+mod ahead;
 mod blocks;
 mod errand;
+mod favor;
 mod hatch;
 mod opener;
 mod prepared;

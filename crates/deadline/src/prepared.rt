@@ -3,13 +3,14 @@ ghost use Rattle.std.specs.Prelude.{◌≡◌, true, IfOk, IfSome, IsTrue, lengt
 ghost use Rattle.std.specs.Arc.{arc_value};
 ghost use Rattle.deadline.specs.Back.{had_come_back};
 
-use crate::hatch::{Asker, FOR_ERRANDS, Runner};
+use crate::ahead::{Ahead, Hint, Sort, has_edges};
+use crate::favor::{Favor, Served, Wanted, behind};
+use crate::hatch::{Asker, FOR_ERRANDS};
 use crate::watch::Watch;
 use disk_preparer::{Beside, BlockMemory, Node, Preparer};
 use event_log::Call;
 use std::alloc::Global;
 use std::io;
-use std::marker::{Model, PhantomData};
 use std::sync::atomic::{AtomicUsize, Ordering};
 use std::sync::{Arc, Mutex, MutexGuard, Wait};
 use std::thread::Threads;
@@ -22,114 +23,6 @@ const THREADS: usize = 16;
 /// for these under the lock.
 const MUCH: usize = 32768;
 
-/// What a preparer is asked.
-#[derive(Clone, Copy, PartialEq, Eq)]
-enum Wanted {
-    Advise(u64, u16),
-    AdviseEdges(u64, u16),
-    Fetch(u64, u16),
-    FetchEdges(u64, u16),
-    Read(u64, bool),
-    Flush,
-}
-
-/// The same, and whether a flush was done.
-#[derive(Drop)]
-struct Favor<P: Preparer> {
-    wanted: Wanted,
-    // Whose flush it is.
-    disk: Node,
-    is_flushed: bool,
-    memory: Option<BlockMemory>,
-    of: PhantomData<P>,
-}
-
-impl<P: Preparer> Model for Favor<P> {
-    ghost use Rattle.std.specs.Prelude.{◌≡◌, Bool, true};
-    ghost use Rattle.disk_preparer.specs.declared.Node.{Node};
-
-    ghost Value = { Bool × Node };
-
-    ghost view = { λ f. (f.is_flushed, f.disk) };
-
-    ghost invariant = { λ f. f.is_flushed ≡ true → P.has_flushed f.disk };
-}
-
-impl<P: Preparer> Favor<P> {
-    // One that is not done yet.
-    fn of(wanted: Wanted, disk: Node) -> Favor<P> {
-        Favor {
-            wanted,
-            disk,
-            is_flushed: false,
-            memory: None,
-            of: PhantomData,
-        }
-    }
-
-    // One that reads, into this memory.
-    fn reading(wanted: Wanted, disk: Node, bytes: Vec<u8>) -> Favor<P> {
-        Favor {
-            wanted,
-            disk,
-            is_flushed: false,
-            memory: Some(BlockMemory::fresh(bytes)),
-            of: PhantomData,
-        }
-    }
-
-    // Whether a flush of this disk was done.
-    fn has_flushed(&self, disk: Node) -> bool
-        ensures { IsTrue result → P.has_flushed disk }
-    {
-        self.is_flushed && self.disk.is(disk)
-    }
-}
-
-/// A preparer, as one of its threads has it.
-#[derive(Drop)]
-struct Served<P: Preparer> {
-    preparer: Arc<P, Global>,
-    disk: Node,
-    ghost of_disk: { P.disk (arc_value preparer) ≡ disk },
-}
-
-impl<P: Preparer> Served<P> {
-    // Does what is wanted: whether a flush was done.
-    fn does(&self, wanted: Wanted) -> bool
-        ensures { IsTrue result → P.has_flushed self.now.disk }
-    {
-        match wanted {
-            Wanted::Advise(first, blocks) => self.preparer.advise(first, blocks),
-            Wanted::AdviseEdges(first, blocks) => self.preparer.advise_edges(first, blocks),
-            Wanted::Fetch(first, blocks) => self.preparer.fetch(first, blocks),
-            Wanted::FetchEdges(first, blocks) => self.preparer.fetch_edges(first, blocks),
-            Wanted::Flush => return self.preparer.flush(),
-            Wanted::Read(..) => {}
-        }
-        false
-    }
-}
-
-impl<P: Preparer> Runner<Favor<P>> for Served<P> {
-    fn run(&mut self, favor: Favor<P>) -> Favor<P> {
-        let wanted = favor.wanted;
-        let memory = match (wanted, favor.memory) {
-            (Wanted::Read(first, is_looked_at), Some(memory)) => {
-                self.preparer.read(first, memory.bytes, is_looked_at)
-            }
-            _ => None,
-        };
-        Favor {
-            wanted,
-            disk: self.disk,
-            is_flushed: self.does(wanted),
-            memory,
-            of: PhantomData,
-        }
-    }
-}
-
 /// A preparer whose calls are made by threads of its own, as many at a time as there are.
 pub struct DeadlinedPreparer<R: Wait + Clock + Drop, P: Preparer> {
     rt: R,
@@ -139,6 +32,7 @@ pub struct DeadlinedPreparer<R: Wait + Clock + Drop, P: Preparer> {
     fetchers: Vec<Mutex<Asker<R, Favor<P>>>>,
     flushers: Vec<Mutex<Asker<R, Favor<P>>>>,
     turns: AtomicUsize,
+    ahead: Arc<Ahead, Global>,
 }
 
 impl<R: Wait + Clock + Drop, P: Preparer> Drop for DeadlinedPreparer<R, P> {
@@ -151,6 +45,7 @@ impl<R: Wait + Clock + Drop, P: Preparer> Drop for DeadlinedPreparer<R, P> {
             fetchers: _,
             flushers: _,
             turns: _,
+            ahead: _,
         } = self;
     }
 }
@@ -165,15 +60,20 @@ fn askers<
     preparer: &Arc<P, Global>,
     disk: Node,
     watch: &Arc<Watch, Global>,
+    ahead: &Arc<Ahead, Global>,
 ) -> io::Result<Vec<Mutex<Asker<R, Favor<P>>>>>
     requires { P.disk (arc_value preparer.now) ≡ disk }
 {
     let mut askers = Vec::with_capacity(alloc, THREADS)?;
     for number in 0..THREADS {
-        let served = Served {
-            preparer: Arc::try_clone(preparer)?,
+        let served = Served::new(
+            rt.clone()?,
+            alloc,
+            Arc::try_clone(preparer)?,
             disk,
-        };
+            Arc::try_clone(watch)?,
+            Arc::try_clone(ahead)?,
+        )?;
         let favor = Favor::of(Wanted::Flush, disk);
         let looks = if number == 0 {
             FOR_ERRANDS
@@ -201,8 +101,9 @@ impl<
         ensures { IfOk result (λ p. p.node ≡ disk) }
     {
         let preparer = Arc::new(alloc, preparer)?;
-        let fetchers = askers(rt, alloc, &preparer, disk, watch)?;
-        let flushers = askers(rt, alloc, &preparer, disk, watch)?;
+        let ahead = Arc::new(alloc, Ahead::new(alloc)?)?;
+        let fetchers = askers(rt, alloc, &preparer, disk, watch, &ahead)?;
+        let flushers = askers(rt, alloc, &preparer, disk, watch, &ahead)?;
         Ok(DeadlinedPreparer {
             rt: rt.clone()?,
             preparer,
@@ -211,6 +112,7 @@ impl<
             fetchers,
             flushers,
             turns: AtomicUsize::new(0),
+            ahead,
         })
     }
 }
@@ -246,12 +148,26 @@ impl<R: Wait + Clock + Drop, P: Preparer> DeadlinedPreparer<R, P> {
         }
         // The first ones, which were busy last, do not sleep yet.
         for asker in askers {
-            if let Some(free) = asker.try_lock() {
+            if let Some(free) = asker.try_lock()
+                && !free.goes_on()
+            {
                 return Some(free);
             }
         }
         let turn = self.turns.fetch_add(1, Ordering::Relaxed) % askers.len();
         Some(askers[turn].lock(&self.rt))
+    }
+
+    // What is wanted from this block on, behind a look at how many writes have come back.
+    fn look(&self, first: u64) -> Beside
+        ensures { had_come_back result.disk result.writes }
+    {
+        let (disk, writes) = (self.node, self.watch.writes(self.node));
+        Beside {
+            disk,
+            first,
+            writes,
+        }
     }
 
     // Has a thread fetch blocks.
@@ -275,20 +191,6 @@ fn read_by<R: Wait + Clock + Drop, P: Preparer>(
     let memory = answered.memory.take();
     asker.keep(answered);
     memory
-}
-
-// What was read beside the device, behind a look at how many of its writes had come back; what was not stays memory.
-#[tactic(auto, using(disk_preparer::specs::Beside::a_read_beside_says))]
-fn behind(memory: BlockMemory, beside: Beside) -> BlockMemory
-    requires { had_come_back beside.disk beside.writes }
-    ensures { result.bytes ≡ memory.bytes }
-{
-    match memory.beside {
-        Some(read) if read.disk.is(beside.disk) && read.first == beside.first => {
-            BlockMemory::read(memory.bytes, beside)
-        }
-        _ => BlockMemory::fresh(memory.bytes),
-    }
 }
 
 // Has a thread read blocks beside the device, behind such a look. None: the memory is gone.
@@ -317,26 +219,47 @@ impl<R: Wait + Clock + Drop, P: Preparer> Preparer for DeadlinedPreparer<R, P> {
 
     ghost has_flushed = { P.has_flushed };
 
+    // What waits together is read together, however fast the disk is.
     fn is_slow(&self) -> bool {
-        self.preparer.is_slow()
+        true
     }
 
     fn advise(&self, first: u64, blocks: u16) {
-        if self.is_slow() {
-            self.ask_fetcher(Wanted::Advise(first, blocks));
-        }
+        let sort = if self.ahead.serves(blocks) {
+            Sort::Read
+        } else if self.preparer.is_slow() {
+            Sort::Fetch
+        } else {
+            return;
+        };
+        self.ahead.keep(
+            &self.rt,
+            Hint {
+                sort,
+                first,
+                blocks,
+            },
+        );
     }
 
     fn advise_edges(&self, first: u64, blocks: u16) {
-        if self.is_slow() {
-            self.ask_fetcher(Wanted::AdviseEdges(first, blocks));
+        if has_edges(first, blocks) && self.preparer.is_slow() {
+            let sort = Sort::Edges;
+            self.ahead.keep(
+                &self.rt,
+                Hint {
+                    sort,
+                    first,
+                    blocks,
+                },
+            );
         }
     }
 
     // To look costs the way to a thread that sleeps. So while the disk counts as fast, it is looked at only where the device has kept
     // somebody waiting.
     fn wants(&self, serial: u64) -> bool {
-        self.is_slow() || self.preparer.wants(serial) && self.watch.has_slept()
+        self.preparer.is_slow() || self.preparer.wants(serial) && self.watch.has_slept()
     }
 
     fn fetch(&self, first: u64, blocks: u16) {
@@ -344,23 +267,23 @@ impl<R: Wait + Clock + Drop, P: Preparer> Preparer for DeadlinedPreparer<R, P> {
     }
 
     fn fetch_edges(&self, first: u64, blocks: u16) {
-        self.ask_fetcher(Wanted::FetchEdges(first, blocks));
+        if has_edges(first, blocks) && !self.ahead.has_arrived(first) {
+            self.ask_fetcher(Wanted::FetchEdges(first, blocks));
+        }
     }
 
     fn read(&self, first: u64, bytes: Vec<u8>, is_looked_at: bool) -> Option<BlockMemory> {
-        if !is_looked_at && bytes.len() < MUCH {
-            return Some(BlockMemory::fresh(bytes));
+        let memory = self.ahead.exchange(self.look(first), bytes);
+        let is_left = !is_looked_at && memory.bytes.len() < MUCH && !self.ahead.has_some(&self.rt);
+        if memory.beside.is_some() || is_left {
+            return Some(memory);
         }
-        let Some(mut asker) = self.free(&self.fetchers) else {
-            return Some(BlockMemory::fresh(bytes));
-        };
-        let (disk, writes) = (self.node, self.watch.writes(self.node));
-        let beside = Beside {
-            disk,
-            first,
-            writes,
-        };
-        read_behind(&mut asker, beside, bytes, is_looked_at)
+        match self.free(&self.fetchers) {
+            Some(mut asker) => {
+                read_behind(&mut asker, self.look(first), memory.bytes, is_looked_at)
+            }
+            None => Some(memory),
+        }
     }
 
     fn flushes(&self) -> bool {

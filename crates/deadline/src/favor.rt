@@ -1,0 +1,292 @@
+//! What a thread of a preparer is asked, and what it does.
+ghost use Rattle.std.specs.Prelude.{◌≡◌, true, IsTrue};
+ghost use Rattle.std.specs.Arc.{arc_value};
+ghost use Rattle.deadline.specs.Back.{had_come_back};
+
+use crate::ahead::{Ahead, Hint, Sort};
+use crate::hatch::{Runner, left};
+use crate::watch::Watch;
+use block_file::BLOCK_LENGTH;
+use disk_preparer::{Beside, BlockMemory, Node, Preparer};
+use std::alloc::{AllocError, Global};
+use std::marker::{Model, PhantomData};
+use std::sync::{Arc, Wait};
+use std::time::{Clock, Duration};
+
+/// What is done for others behind or before an answer has this part of the time that a call may take.
+const PART: u32 = 16;
+
+/// So many bytes are read ahead behind one answer.
+const AT_ONCE: usize = 524_288;
+
+/// What a preparer is asked.
+#[derive(Clone, Copy, PartialEq, Eq)]
+pub(crate) enum Wanted {
+    Fetch(u64, u16),
+    FetchEdges(u64, u16),
+    Read(u64, bool),
+    Flush,
+}
+
+/// The same, and whether a flush was done.
+#[derive(Drop)]
+pub(crate) struct Favor<P: Preparer> {
+    wanted: Wanted,
+    // Whose flush it is.
+    disk: Node,
+    is_flushed: bool,
+    pub(crate) memory: Option<BlockMemory>,
+    of: PhantomData<P>,
+}
+
+impl<P: Preparer> Model for Favor<P> {
+    ghost use Rattle.std.specs.Prelude.{◌≡◌, Bool, true};
+    ghost use Rattle.disk_preparer.specs.declared.Node.{Node};
+
+    ghost Value = { Bool × Node };
+
+    ghost view = { λ f. (f.is_flushed, f.disk) };
+
+    ghost invariant = { λ f. f.is_flushed ≡ true → P.has_flushed f.disk };
+}
+
+impl<P: Preparer> Favor<P> {
+    // One that is not done yet.
+    pub(crate) fn of(wanted: Wanted, disk: Node) -> Favor<P> {
+        Favor {
+            wanted,
+            disk,
+            is_flushed: false,
+            memory: None,
+            of: PhantomData,
+        }
+    }
+
+    // One that reads, into this memory.
+    pub(crate) fn reading(wanted: Wanted, disk: Node, bytes: Vec<u8>) -> Favor<P> {
+        Favor {
+            wanted,
+            disk,
+            is_flushed: false,
+            memory: Some(BlockMemory::fresh(bytes)),
+            of: PhantomData,
+        }
+    }
+
+    // Whether a flush of this disk was done.
+    pub(crate) fn has_flushed(&self, disk: Node) -> bool
+        ensures { IsTrue result → P.has_flushed disk }
+    {
+        self.is_flushed && self.disk.is(disk)
+    }
+}
+
+// What was read beside the device, behind a look at how many of its writes had come back; what was not stays memory.
+#[tactic(auto, using(disk_preparer::specs::Beside::a_read_beside_says))]
+pub(crate) fn behind(memory: BlockMemory, beside: Beside) -> BlockMemory
+    requires { had_come_back beside.disk beside.writes }
+    ensures { result.bytes ≡ memory.bytes }
+{
+    match memory.beside {
+        Some(read) if read.disk.is(beside.disk) && read.first == beside.first => {
+            BlockMemory::read(memory.bytes, beside)
+        }
+        _ => BlockMemory::fresh(memory.bytes),
+    }
+}
+
+/// A preparer, as one of its threads has it.
+#[derive(Drop)]
+pub(crate) struct Served<R: Wait + Clock + Drop, P: Preparer> {
+    rt: R,
+    preparer: Arc<P, Global>,
+    disk: Node,
+    watch: Arc<Watch, Global>,
+    ahead: Arc<Ahead, Global>,
+    // What it was told with what it was asked last; and when that was, and from which block on it reads.
+    hints: Vec<Hint>,
+    begun: Option<Duration>,
+    own: Option<u64>,
+    // Whether it reads ahead behind its answer.
+    has_more: bool,
+    ghost of_disk: { P.disk (arc_value preparer) ≡ disk },
+}
+
+// The first block of what is read.
+fn first_of(wanted: Wanted) -> Option<u64> {
+    match wanted {
+        Wanted::Read(first, _) => Some(first),
+        _ => None,
+    }
+}
+
+impl<R: Wait + Clock + Drop, P: Preparer> Served<R, P> {
+    /// The preparer of this disk; what is asked of it is told here before.
+    pub(crate) fn new(
+        rt: R,
+        alloc: Global,
+        preparer: Arc<P, Global>,
+        disk: Node,
+        watch: Arc<Watch, Global>,
+        ahead: Arc<Ahead, Global>,
+    ) -> Result<Served<R, P>, AllocError>
+        requires { P.disk (arc_value preparer) ≡ disk }
+    {
+        Ok(Served {
+            rt,
+            preparer,
+            disk,
+            watch,
+            ahead,
+            hints: Ahead::room(alloc)?,
+            begun: None,
+            own: None,
+            has_more: false,
+        })
+    }
+
+    // Whether this run is read ahead, and is not what is asked.
+    fn is_next(&self, hint: Hint) -> bool {
+        hint.sort == Sort::Read && Some(hint.first) != self.own
+    }
+
+    // Whether there is time for what nobody waits for.
+    fn has_time(&self) -> bool {
+        match self.begun {
+            Some(begun) => left(&self.rt, begun, self.watch.patience() / PART).is_some(),
+            None => false,
+        }
+    }
+
+    // Says which runs are read ahead: whether there are any.
+    fn announce(&self) -> bool {
+        let mut is_any = false;
+        for hint in &self.hints {
+            if self.is_next(*hint) {
+                self.ahead.comes(hint.first);
+                is_any = true;
+            }
+        }
+        is_any
+    }
+
+    // Tells the disk what it is told.
+    fn tell(&self) {
+        for hint in &self.hints {
+            if !self.has_time() {
+                return;
+            }
+            match hint.sort {
+                Sort::Edges => self.preparer.advise_edges(hint.first, hint.blocks),
+                Sort::Fetch | Sort::Read => self.preparer.advise(hint.first, hint.blocks),
+            }
+        }
+    }
+
+    // Takes what is told, before this is done.
+    fn listen(&mut self, wanted: Wanted) {
+        self.ahead.begin_work();
+        self.begun = self.rt.monotonic().ok();
+        self.own = first_of(wanted);
+        self.ahead.take_hints(&self.rt, &mut self.hints);
+        self.has_more = self.announce();
+        self.tell();
+    }
+
+    // The disk has given what was asked for behind all that it was told.
+    fn arrive(&self) {
+        for hint in &self.hints {
+            if hint.sort == Sort::Edges {
+                self.ahead.arrives(hint.first);
+            }
+        }
+    }
+
+    // Reads blocks that are wanted soon. False: they are not read.
+    fn read_ahead(&self, hint: Hint) -> bool {
+        let Some((turn, bytes)) = self.ahead.begin(BLOCK_LENGTH * usize::from(hint.blocks)) else {
+            return false;
+        };
+        let (disk, writes) = (self.disk, self.watch.writes(self.disk));
+        let beside = Beside {
+            disk,
+            first: hint.first,
+            writes,
+        };
+        match self.preparer.read(hint.first, bytes, false) {
+            Some(memory) => {
+                self.ahead.end(turn, hint.first, behind(memory, beside));
+                true
+            }
+            None => false,
+        }
+    }
+
+    // Reads what is read ahead. What is too much goes along with what is asked next.
+    fn read_on(&self) {
+        let mut room = AT_ONCE;
+        for hint in &self.hints {
+            let length = BLOCK_LENGTH * usize::from(hint.blocks);
+            if !self.is_next(*hint) {
+                continue;
+            }
+            let (suits, is_much) = (self.ahead.suits(length), length > room);
+            room = room.saturating_sub(length);
+            if suits && is_much {
+                self.ahead.keep(&self.rt, *hint);
+            }
+            if !suits || is_much || !self.has_time() || !self.read_ahead(*hint) {
+                self.ahead.stays_away(hint.first);
+            }
+        }
+    }
+
+    // Does what is wanted: whether a flush was done.
+    fn does(&self, wanted: Wanted) -> bool
+        ensures { IsTrue result → P.has_flushed self.now.disk }
+    {
+        match wanted {
+            Wanted::Fetch(first, blocks) => self.preparer.fetch(first, blocks),
+            Wanted::FetchEdges(first, blocks) => self.preparer.fetch_edges(first, blocks),
+            Wanted::Flush => return self.preparer.flush(),
+            Wanted::Read(..) => {}
+        }
+        false
+    }
+}
+
+impl<R: Wait + Clock + Drop, P: Preparer> Runner<Favor<P>> for Served<R, P> {
+    fn run(&mut self, favor: Favor<P>) -> Favor<P> {
+        let wanted = favor.wanted;
+        if wanted != Wanted::Flush {
+            self.listen(wanted);
+        }
+        let memory = match (wanted, favor.memory) {
+            (Wanted::Read(first, is_looked_at), Some(memory)) => {
+                self.preparer.read(first, memory.bytes, is_looked_at)
+            }
+            _ => None,
+        };
+        let is_flushed = self.does(wanted);
+        self.arrive();
+        if wanted != Wanted::Flush && !self.has_more {
+            self.ahead.end_work();
+        }
+        Favor {
+            wanted,
+            disk: self.disk,
+            is_flushed,
+            memory,
+            of: PhantomData,
+        }
+    }
+
+    fn has_more(&self) -> bool {
+        self.has_more
+    }
+
+    fn go_on(&mut self) {
+        self.read_on();
+        self.ahead.end_work();
+    }
+}
