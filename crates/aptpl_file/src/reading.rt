@@ -4,7 +4,7 @@ ghost use Rattle.block_file.specs.Disk.{block_at, NoMore};
 ghost use Rattle.block_file.specs.Failures.{Counts, Tells};
 ghost use Rattle.registrants.specs.Registry.{RecordValue};
 ghost use Rattle.aptpl_format.specs.Format.{file_blocks};
-ghost use Rattle.aptpl_format.specs.Reads.{IsRefusalOf, IsUnfailed};
+ghost use Rattle.aptpl_format.specs.Reads.{IsRefusalOf, DeviceAnswered};
 ghost use Rattle.aptpl_file.specs.Holds.{HasSlot, Holds, IsRefusal};
 ghost use Rattle.aptpl_file.specs.Lasts.{IsDecided};
 ghost use Rattle.aptpl_file.specs.Runs.{AreSlot};
@@ -59,7 +59,7 @@ fn read_slot<B: Blocks>(
         ((r : RecordValue) → HasSlot (B.contents device.old) version slot r → ⊥)) }
     ensures contents { IsTrue B.claims → B.contents device.new ≡ B.contents device.old }
     ensures crash { IsTrue B.claims → NoMore (B.may_hold device.old) (B.may_hold device.new) }
-    ensures failures { Tells (B.failures device.old) (B.failures device.new) (IsUnfailed result) }
+    ensures failures { Tells (B.failures device.old) (B.failures device.new) (DeviceAnswered result) }
 {
     let Ok(bytes) = read_bytes(device, slot) else {
         return Err(OpenFault::DeviceFailed);
@@ -78,7 +78,7 @@ pub fn read_record<B: Blocks>(
     ensures lasts { IsTrue B.claims → IfOk result (λ found. IsDecided (B.may_hold device.new) found.0 found.1 found.2) }
     ensures refused { IsTrue B.claims → IfErr result (IsRefusal (B.contents device.old)) }
     ensures contents { IsTrue B.claims → B.contents device.new ≡ B.contents device.old }
-    ensures failures { Tells (B.failures device.old) (B.failures device.new) (IsUnfailed result) }
+    ensures failures { Tells (B.failures device.old) (B.failures device.new) (DeviceAnswered result) }
 {
     let Ok(root) = read_block(device, 0) else {
         return Err(OpenFault::DeviceFailed);

@@ -98,9 +98,9 @@ pub record Spells (version : FileVersion) (bytes : List ℕ) (r : RecordValue) :
   pub spelled : bytes ≡ slot_bytes version r
 
 -- the device did not fail
-abbrev pub IsUnfailed : {T : Type 0} → Result T OpenFault → Type 0
-IsUnfailed (Ok t) = Unit {0}
-IsUnfailed (Err NotARegFile) = Unit {0}
-IsUnfailed (Err Version) = Unit {0}
-IsUnfailed (Err DeviceFailed) = ⊥
-IsUnfailed (Err NoMemory) = Unit {0}
+abbrev pub DeviceAnswered : {T : Type 0} → Result T OpenFault → Type 0
+DeviceAnswered (Ok t) = Unit {0}
+DeviceAnswered (Err NotARegFile) = Unit {0}
+DeviceAnswered (Err Version) = Unit {0}
+DeviceAnswered (Err DeviceFailed) = ⊥
+DeviceAnswered (Err NoMemory) = Unit {0}

@@ -10,7 +10,7 @@ ghost use Rattle.registrants.specs.Nexus.{nexus_cmp};
 ghost use Rattle.registrants.specs.Registry.{IsListed, RecordValue, is_lasting, is_sound_hold};
 ghost use Rattle.aptpl_format.specs.declared.entry.Entry.{Entry};
 ghost use Rattle.aptpl_format.specs.Format.{entry_bytes, entry_length, group_code, root_block, slot_bytes, version_bytes};
-ghost use Rattle.aptpl_format.specs.Reads.{AreEntries, HasReservation, IsEntry, IsRefusalOf, IsRootRefusal, IsUnfailed};
+ghost use Rattle.aptpl_format.specs.Reads.{AreEntries, HasReservation, IsEntry, IsRefusalOf, IsRootRefusal, DeviceAnswered};
 ghost use Rattle.aptpl_format.specs.Reads.{IsVersion, Spells, SpellsEntries, covered, entry_part, holder_in};
 
 use crate::entry::{Entry, MOST_ENTRIES, place_of};
@@ -131,7 +131,7 @@ fn push_behind(registrants: &mut Vec<Registrant>, x: Registrant) -> Result<(), O
     ensures entries { OnOk result (AreEntries registrants.new.items) }
     ensures refused { IfErr result (λ fault. IsRefusalOf fault
         ((rest : List Registrant) → AreEntries (registrants.old.items ++ x ∷ rest) → ⊥)) }
-    ensures unfailed { IsUnfailed result }
+    ensures unfailed { DeviceAnswered result }
 {
     if !stands_behind(registrants, &x) {
         return Err(OpenFault::NotARegFile);
@@ -150,7 +150,7 @@ fn push_covered(registrants: &mut Vec<Registrant>, e: Entry) -> Result<(), OpenF
     ensures entries { OnOk result (AreEntries registrants.new.items) }
     ensures refused { IfErr result (λ fault. IsRefusalOf fault
         ((rest : List Registrant) → AreEntries (registrants.old.items ++ (covered e ++ rest)) → ⊥)) }
-    ensures unfailed { IsUnfailed result }
+    ensures unfailed { DeviceAnswered result }
 {
     if !e.both {
         return push_behind(registrants, e.registrant);
@@ -175,7 +175,7 @@ fn take_entry(registrants: &mut Vec<Registrant>, entry: &[u8]) -> Result<(), Ope
     ensures refused { IfErr result (λ fault. IsRefusalOf fault
         ((e : Entry) (rest : List Registrant) → IsEntry e → entry.now ≡ entry_bytes e
         → AreEntries (registrants.old.items ++ (covered e ++ rest)) → ⊥)) }
-    ensures unfailed { IsUnfailed result }
+    ensures unfailed { DeviceAnswered result }
 {
     match entry_in(entry) {
         Some(e) => push_covered(registrants, e),
@@ -205,7 +205,7 @@ fn registrants_in(
         → xs.items ≡ flat_map covered es) }
     ensures refused { IfErr result (λ fault. IsRefusalOf fault
         ((es : List Entry) → SpellsEntries bytes.now count es → ⊥)) }
-    ensures unfailed { IsUnfailed result }
+    ensures unfailed { DeviceAnswered result }
 {
     let mut registrants = Vec::new(alloc);
     for i in 0..count {
@@ -247,7 +247,7 @@ fn reservation_in(
         → r.reservation ≡ held) }
     ensures refused { IfErr result (λ fault. IsRefusalOf fault
         ((r : RecordValue) → HasReservation version bytes.now registrants.now r → ⊥)) }
-    ensures unfailed { IsUnfailed result }
+    ensures unfailed { DeviceAnswered result }
 {
     let Some(kind) = ReservationType::from_code(bytes[10]) else {
         return Ok(None);
@@ -298,7 +298,7 @@ fn record_with(
     ensures read { IfOk result (Spells version bytes.now) }
     ensures refused { IfErr result (λ fault. IsRefusalOf fault
         ((r : RecordValue) → Spells version bytes.now r → r.registrants ≡ registrants.items → ⊥)) }
-    ensures unfailed { IsUnfailed result }
+    ensures unfailed { DeviceAnswered result }
 {
     if registrants.len() > MOST_ENTRIES {
         return Err(OpenFault::NotARegFile);
@@ -324,7 +324,7 @@ pub fn record_of(
 ) -> Result<Record, OpenFault>
     ensures read { IfOk result (Spells version bytes.now) }
     ensures refused { IfErr result (λ fault. IsRefusalOf fault ((r : RecordValue) → Spells version bytes.now r → ⊥)) }
-    ensures unfailed { IsUnfailed result }
+    ensures unfailed { DeviceAnswered result }
 {
     let count = usize::from(bytes[9]);
     if count > MOST_ENTRIES {

@@ -8,7 +8,7 @@ ghost use Rattle.array_units.specs.Places.{place_of};
 ghost use Rattle.array_units.specs.Rows.{IsRead};
 
 use access_states::Change;
-use block_file::{Blocks, DeviceFailed, Opener, Room};
+use block_file::{Blocks, DeviceFailed, Opener, ReplyMemory};
 use reservations::Registry;
 use scsi_types::{Asked, Group, PortName, Reply};
 use status::Row;
@@ -85,7 +85,7 @@ impl<B: Blocks, F: Blocks, O: Opener<B>, N: Array<Opened>> AnyUnit<B, F, O, N> {
         &self,
         rt: &W,
         pass: Pass<B, F, O, N>,
-        room: Room,
+        room: ReplyMemory,
         by_group: &Group,
         asked: &Asked,
         bytes: &[u8],

@@ -10,7 +10,7 @@ ghost use Rattle.array_units.specs.Rows.{IsRead};
 
 use crate::any_unit::{AnyUnit, Seated};
 use access_states::Change;
-use block_file::{Blocks, DeviceFailed, Opener, Room};
+use block_file::{Blocks, DeviceFailed, Opener, ReplyMemory};
 use crossbeam_utils::CachePadded;
 use reservations::Registry;
 use scsi_types::{Asked, Group, NoMemory, PortName, Reply};
@@ -166,7 +166,7 @@ impl<B: Blocks, F: Blocks, O: Opener<B>, N: Array<Opened>> Units<B, F, O, N> {
         &self,
         rt: &W,
         pass: Pass<B, F, O, N>,
-        room: Room,
+        room: ReplyMemory,
         by_group: &Group,
         asked: &Asked,
         bytes: &[u8],

@@ -6,10 +6,10 @@ mod fused;
 pub mod laws;
 mod mem;
 mod opener;
-mod room;
+mod reply_memory;
 
 pub use blocks::{BLOCK_LENGTH, Blocks, DeviceFailed};
 pub use fused::FusedBlocks;
 pub use mem::MemBlocks;
 pub use opener::{FusedOpener, KeepOpener, Opener};
-pub use room::Room;
+pub use reply_memory::ReplyMemory;

@@ -17,8 +17,8 @@ pub record Move : Type 0 where
 
 -- What a move shows: a legal history of its unit, which ends with it, and what became of the devices; or, where the unit stays,
 -- one that shows why.
-abbrev pub IsMade : {B R O : Type 0} → Devices B R O → (ℕ → UnitState) → Move → Type 0
-IsMade d opening m =
+abbrev pub IsMoveMade : {B R O : Type 0} → Devices B R O → (ℕ → UnitState) → Move → Type 0
+IsMoveMade d opening m =
     IfOk m.end (HasMoved d (opening m.place) m.list m.seen) × IfErr m.end (HasStayed d (opening m.place) m.list m.seen)
 
 -- Who moves units knows how many there are, and keeps the moves that were asked of it, the first first, with those that failed.

@@ -23,7 +23,7 @@ pub trait Moves {
     /// The moves that were asked, the first first.
     ghost asked: { Self → List Move };
 
-    /// What the history of a move shows: the move as its last entry, or why the unit stays (`IsMade`).
+    /// What the history of a move shows: the move as its last entry, or why the unit stays (`IsMoveMade`).
     ghost made: { Move → Type 0 };
 
     /// How many units there are.
@@ -136,13 +136,13 @@ impl<'a, B: Blocks, F: Blocks, O: Opener<B>, N: Array<Opened>> Mover<'a, B, F, O
 
 impl<'a, B: Blocks, F: Blocks, O: Opener<B>, N: Array<Opened>> Moves for Mover<'a, B, F, O, N> {
     ghost use Rattle.unit_entries.specs.Devices.{devices};
-    ghost use Rattle.failover.specs.Mover.{IsMade};
+    ghost use Rattle.failover.specs.Mover.{IsMoveMade};
 
     ghost unit_count = { λ m. m.unit_count };
 
     ghost asked = { λ m. m.asked };
 
-    ghost made = { IsMade (devices B.Blocks F.Blocks O.Opener) N.opening };
+    ghost made = { IsMoveMade (devices B.Blocks F.Blocks O.Opener) N.opening };
 
     fn count(&self) -> usize {
         self.units.count()

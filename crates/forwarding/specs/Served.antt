@@ -30,9 +30,9 @@ abbrev pub pass_of : Handed → Known Entry
 pass_of job = record { session = job.names.session; serial = job.names.serial; seen = job.seen }
 
 -- The job's command was served by the group of its desk, or refused, as a shared unit's `serve` promises, of its devices too.
-abbrev pub HasAnswered : {B R O : Type 0} → Devices B R O → UnitState → Handed → Known Entry → Result ReplyValue (Refused Group)
+abbrev pub HasAnsweredJob : {B R O : Type 0} → Devices B R O → UnitState → Handed → Known Entry → Result ReplyValue (Refused Group)
     → Type 0
-HasAnswered d s job after end =
+HasAnsweredJob d s job after end =
     IfOk end (λ reply. HasServed (claims_of d) s (pass_of job) after job.names.by_group job.names.asked job.data_in reply)
     × IfOk end (λ reply. HasWorked d s job.names.session job.names.asked job.data_in reply after.seen)
     × IfErr end (λ why. HasRefused (claims_of d) s (pass_of job) after job.names.by_group job.names.asked job.data_in why)

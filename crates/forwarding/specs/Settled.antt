@@ -7,7 +7,7 @@ use Rattle.scsi_types.specs.declared.names.Group.{Group}
 use Rattle.unit_control.specs.State.{UnitState}
 use Rattle.unit_control.specs.Entry.{Entry}
 use Rattle.unit_entries.specs.Devices.{Devices}
-use Rattle.forwarding.specs.Served.{Handed, HasAnswered}
+use Rattle.forwarding.specs.Served.{Handed, HasAnsweredJob}
 use Rattle.forwarding.specs.declared.desk.DeskFault.{DeskFault}
 use Rattle.forwarding.specs.declared.desk.DeskFault.TheVariants.{Full, Closed, NoMemory}
 
@@ -22,5 +22,5 @@ abbrev pub IsSettled : {B R O : Type 0} → Devices B R O → UnitState → Plac
     → Result (Result ReplyValue (Refused Group)) DeskFault → Type 0
 IsSettled d s before job after end =
     (after.place ≡ before.place)
-    × IfOk end (λ answer. HasAnswered d s job after.pass answer)
+    × IfOk end (λ answer. HasAnsweredJob d s job after.pass answer)
     × IfErr end (λ fault. (after ≡ before) × IsFullOrClosed fault)

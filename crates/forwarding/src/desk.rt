@@ -1,13 +1,13 @@
 //! The desk of a controller.
 ghost use Rattle.std.specs.Prelude.{◌≡◌, ◌<◌, IfOk, IfErr, IfSome, slice_get};
 ghost use Rattle.forwarding.specs.Settled.{IsSettled};
-ghost use Rattle.forwarding.specs.Served.{HasAnswered, handed_of};
+ghost use Rattle.forwarding.specs.Served.{HasAnsweredJob, handed_of};
 ghost use Rattle.unit_entries.specs.Devices.{devices};
 
 use crate::job::{Answer, Job, Ticket, Waiting, prepare};
 use crate::queue::{NotQueued, Queue};
 use array_units::Units;
-use block_file::{Blocks, Opener, Room};
+use block_file::{Blocks, Opener, ReplyMemory};
 use crossbeam_utils::CachePadded;
 use scsi_types::{Asked, Group, NoMemory, Reply};
 use std::alloc::Global;
@@ -201,7 +201,7 @@ impl<B: Blocks, F: Blocks, O: Opener<B>, N: Array<Opened>> Desk<B, F, O, N> {
         ticket: Ticket<'_, B, F, O, N>,
     ) -> (Pass<B, F, O, N>, Result<Reply, Refused<Group>>)
         ensures place { result.0.place ≡ ticket.entry.names.place }
-        ensures end { HasAnswered (devices B.Blocks F.Blocks O.Opener) (N.opening ticket.entry.names.place) ticket.entry
+        ensures end { HasAnsweredJob (devices B.Blocks F.Blocks O.Opener) (N.opening ticket.entry.names.place) ticket.entry
             result.0.pass result.1 }
     {
         self.filled.notify_one();
@@ -227,13 +227,13 @@ impl<B: Blocks, F: Blocks, O: Opener<B>, N: Array<Opened>> Desk<B, F, O, N> {
     pub fn serve_own<W: Wait>(
         &self,
         rt: &W,
-        room: Room,
+        room: ReplyMemory,
         units: &Units<B, F, O, N>,
         ticket: Ticket<'_, B, F, O, N>,
     ) -> (Pass<B, F, O, N>, Result<Reply, Refused<Group>>)
         requires { ticket.names.place < units.now }
         ensures place { result.0.place ≡ ticket.entry.names.place }
-        ensures end { HasAnswered (devices B.Blocks F.Blocks O.Opener) (N.opening ticket.entry.names.place) ticket.entry
+        ensures end { HasAnsweredJob (devices B.Blocks F.Blocks O.Opener) (N.opening ticket.entry.names.place) ticket.entry
             result.0.pass result.1 }
     {
         match self.take_back(rt, &ticket) {
@@ -247,7 +247,7 @@ impl<B: Blocks, F: Blocks, O: Opener<B>, N: Array<Opened>> Desk<B, F, O, N> {
     fn serve_at_once<W: Wait>(
         &self,
         rt: &W,
-        room: Room,
+        room: ReplyMemory,
         units: &Units<B, F, O, N>,
         pass: Pass<B, F, O, N>,
         asked: &Asked,
@@ -272,7 +272,7 @@ impl<B: Blocks, F: Blocks, O: Opener<B>, N: Array<Opened>> Desk<B, F, O, N> {
     fn serve_queued<W: Wait>(
         &self,
         rt: &W,
-        room: Room,
+        room: ReplyMemory,
         units: &Units<B, F, O, N>,
         pass: Pass<B, F, O, N>,
         asked: &Asked,
@@ -304,7 +304,7 @@ impl<B: Blocks, F: Blocks, O: Opener<B>, N: Array<Opened>> Desk<B, F, O, N> {
     pub fn serve<W: Wait>(
         &self,
         rt: &W,
-        room: Room,
+        room: ReplyMemory,
         units: &Units<B, F, O, N>,
         pass: Pass<B, F, O, N>,
         asked: &Asked,

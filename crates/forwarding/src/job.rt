@@ -1,12 +1,12 @@
 //! A command on its way: its job, its ticket and its answer.
 ghost use Rattle.std.specs.Prelude.{◌≡◌, ◌<◌, IfOk, IfErr, MatchBool};
-ghost use Rattle.forwarding.specs.Served.{HasAnswered, handed, handed_of};
+ghost use Rattle.forwarding.specs.Served.{HasAnsweredJob, handed, handed_of};
 ghost use Rattle.forwarding.specs.Jobs.{IsFor};
 ghost use Rattle.unit_entries.specs.Devices.{devices};
 
 use crate::names::{are_of, named, serve_named};
 use array_units::Units;
-use block_file::{Blocks, Opener, Room};
+use block_file::{Blocks, Opener, ReplyMemory};
 use desk_jobs::Names;
 use scsi_types::{Asked, Group, NoMemory, Reply};
 use std::alloc::Global;
@@ -29,7 +29,7 @@ struct Ended<B: Blocks, F: Blocks, O: Opener<B>, N: Array<Opened>> {
 impl<B: Blocks, F: Blocks, O: Opener<B>, N: Array<Opened>> Model for Ended<B, F, O, N> {
     ghost use Rattle.std.specs.Prelude.{◌≡◌};
     ghost use Rattle.unit_entries.specs.Devices.{devices};
-    ghost use Rattle.forwarding.specs.Served.{HasAnswered, handed};
+    ghost use Rattle.forwarding.specs.Served.{HasAnsweredJob, handed};
     ghost use Rattle.forwarding.specs.Jobs.{Done};
 
     ghost Value = { Done };
@@ -37,7 +37,7 @@ impl<B: Blocks, F: Blocks, O: Opener<B>, N: Array<Opened>> Model for Ended<B, F,
     ghost view = { λ e. record { job = handed e.names e.bytes.items e.before.1; after = e.pass.pass; end = e.end } };
 
     ghost invariant = { λ e. (e.before.0 ≡ e.names.place) × (e.pass.place ≡ e.names.place)
-        × HasAnswered (devices B.Blocks F.Blocks O.Opener) (N.opening e.names.place) (handed e.names e.bytes.items e.before.1)
+        × HasAnsweredJob (devices B.Blocks F.Blocks O.Opener) (N.opening e.names.place) (handed e.names e.bytes.items e.before.1)
         e.pass.pass e.end };
 }
 
@@ -52,7 +52,7 @@ impl<B: Blocks, F: Blocks, O: Opener<B>, N: Array<Opened>> Ended<B, F, O, N> {
     // The pass and the end.
     fn open(self) -> (Pass<B, F, O, N>, Result<Reply, Refused<Group>>)
         ensures place { result.0.place ≡ self.job.names.place }
-        ensures end { HasAnswered (devices B.Blocks F.Blocks O.Opener) (N.opening self.job.names.place) self.job result.0.pass result.1 }
+        ensures end { HasAnsweredJob (devices B.Blocks F.Blocks O.Opener) (N.opening self.job.names.place) self.job result.0.pass result.1 }
     {
         (self.pass, self.end)
     }
@@ -159,7 +159,8 @@ impl<B: Blocks, F: Blocks, O: Opener<B>, N: Array<Opened>> Job<B, F, O, N> {
         } = waiting;
         let names = named(&pass, &asked, by_group);
         let before = pass.history();
-        let (pass, end) = serve_named(&names, rt, Room::new(alloc), units, pass, bytes.as_slice());
+        let room = ReplyMemory::new(alloc);
+        let (pass, end) = serve_named(&names, rt, room, units, pass, bytes.as_slice());
         Answer {
             ended: Ended {
                 names,
@@ -268,14 +269,14 @@ impl<'a, B: Blocks, F: Blocks, O: Opener<B>, N: Array<Opened>> Ticket<'a, B, F, 
     pub(crate) fn serve<W: Wait>(
         self,
         rt: &W,
-        room: Room,
+        room: ReplyMemory,
         units: &Units<B, F, O, N>,
         pass: Pass<B, F, O, N>,
     ) -> (Pass<B, F, O, N>, Result<Reply, Refused<Group>>)
         requires own { handed_of pass self.names.asked self.data_in self.names.by_group ≡ self }
         requires place { self.names.place < units.now }
         ensures place { result.0.place ≡ self.entry.names.place }
-        ensures end { HasAnswered (devices B.Blocks F.Blocks O.Opener) (N.opening self.entry.names.place) self.entry
+        ensures end { HasAnsweredJob (devices B.Blocks F.Blocks O.Opener) (N.opening self.entry.names.place) self.entry
             result.0.pass result.1 }
     {
         serve_named(&self.names, rt, room, units, pass, self.bytes)
@@ -301,7 +302,7 @@ impl<'a, B: Blocks, F: Blocks, O: Opener<B>, N: Array<Opened>> Ticket<'a, B, F, 
         rt: &W,
     ) -> (Pass<B, F, O, N>, Result<Reply, Refused<Group>>)
         ensures place { result.0.place ≡ self.entry.names.place }
-        ensures end { HasAnswered (devices B.Blocks F.Blocks O.Opener) (N.opening self.entry.names.place) self.entry
+        ensures end { HasAnsweredJob (devices B.Blocks F.Blocks O.Opener) (N.opening self.entry.names.place) self.entry
             result.0.pass result.1 }
     {
         self.ended(rt).open()

@@ -1,11 +1,11 @@
 //! How the command is served that a job is known by.
 ghost use Rattle.std.specs.Prelude.{◌≡◌, ◌<◌, MatchBool};
 ghost use Rattle.forwarding.specs.Names.{names_of};
-ghost use Rattle.forwarding.specs.Served.{HasAnswered, handed};
+ghost use Rattle.forwarding.specs.Served.{HasAnsweredJob, handed};
 ghost use Rattle.unit_entries.specs.Devices.{devices};
 
 use array_units::Units;
-use block_file::{Blocks, Opener, Room};
+use block_file::{Blocks, Opener, ReplyMemory};
 use desk_jobs::Names;
 use scsi_types::{Asked, Group, Reply};
 use std::sync::Wait;
@@ -43,7 +43,7 @@ pub(crate) fn are_of<B: Blocks, F: Blocks, O: Opener<B>, N: Array<Opened>>(
 pub(crate) fn serve_named<B: Blocks, F: Blocks, O: Opener<B>, N: Array<Opened>, W: Wait>(
     names: &Names,
     rt: &W,
-    room: Room,
+    room: ReplyMemory,
     units: &Units<B, F, O, N>,
     pass: Pass<B, F, O, N>,
     bytes: &[u8],
@@ -51,7 +51,7 @@ pub(crate) fn serve_named<B: Blocks, F: Blocks, O: Opener<B>, N: Array<Opened>, 
     requires own { names_of pass names.now.asked names.now.by_group ≡ names.now }
     requires place { names.now.place < units.now }
     ensures place { result.0.place ≡ names.now.place }
-    ensures end { HasAnswered (devices B.Blocks F.Blocks O.Opener) (N.opening names.now.place)
+    ensures end { HasAnsweredJob (devices B.Blocks F.Blocks O.Opener) (N.opening names.now.place)
         (handed names.now bytes.now pass.pass.seen) result.0.pass result.1 }
 {
     units.serve(rt, pass, room, &names.by_group, &names.asked, bytes)

@@ -25,7 +25,7 @@ use Rattle.unit_control.specs.Medium.{Finding, MayFind, WriteError, left, work_o
 use Rattle.unit_control.specs.Refusal.{Request, request, refusal, refusal_reply, access_by, attention_rule, conflict_rule, field_rule, list_rule, opcode_rule}
 use Rattle.unit_control.specs.Refusal.{past_end_by, saved_rule, state_for}
 use Rattle.unit_entries.specs.Histories.{IsHistory, IsToldBehind}
-use Rattle.late_flushes.specs.Flushes.{Flushing, writes, compares, synchronizes, asked_by, served_by, HasLateFlush, IsTold, IsUnflushed}
+use Rattle.late_flushes.specs.Flushes.{Flushing, writes, compares, synchronizes, asked_by, served_by, HasLateFlush, IsToldBehindFlush, IsUnflushed}
 
 -- ---- commands without their flush
 
@@ -402,7 +402,7 @@ module _ (claims : Bool) (lasts : Type 0) (s : UnitState) (h : List Entry) (sess
         told_is = inr (good, refl);
       }
 
-  pub has_late_flush : (reply told : ReplyValue) → IsToldBehind claims s h it reply → IsTold lasts reply told → Shows told
+  pub has_late_flush : (reply told : ReplyValue) → IsToldBehind claims s h it reply → IsToldBehindFlush lasts reply told → Shows told
   has_late_flush reply told is ended =
       let here = reply_at_end claims s h it reply is in
       ⊎_elim
@@ -415,7 +415,7 @@ module _ (claims : Bool) (lasts : Type 0) (s : UnitState) (h : List Entry) (sess
 pub late_flush_of : (claims : Bool) (lasts : Type 0) (s : UnitState) (h : List Entry) (session serial : ℕ) (by : Group) (bytes : List ℕ)
     (choice : Choice) (asked served : Result ScsiCommand CdbFault) → IsUnflushed asked served
     → IsPossible claims (state_after s h) (Command session serial by served bytes choice) → (reply told : ReplyValue)
-    → IsToldBehind claims s h (Command session serial by served bytes choice) reply → IsTold lasts reply told
+    → IsToldBehind claims s h (Command session serial by served bytes choice) reply → IsToldBehindFlush lasts reply told
     → HasLateFlush claims lasts s h session serial by served bytes choice asked told
 late_flush_of claims lasts s h session serial by bytes choice asked served off possible reply told is ended =
     subst (λ (a : Result ScsiCommand CdbFault). HasLateFlush claims lasts s h session serial by served bytes choice a told) (sym off.1)
@@ -431,7 +431,7 @@ late_flush_of claims lasts s h session serial by bytes choice asked served off p
 
 -- ---- what is known of the flush
 
-pub told_by : (one two : Type 0) (reply told : ReplyValue) → (one → two) → IsTold one reply told → IsTold two reply told
+pub told_by : (one two : Type 0) (reply told : ReplyValue) → (one → two) → IsToldBehindFlush one reply told → IsToldBehindFlush two reply told
 told_by one two reply told more is =
     ⊎_elim (λ (so : (told ≡ reply) × (reply.status ≡ Good → one)). inl (so.0, λ (good : reply.status ≡ Good). more (so.1 good)))
     (λ (failed : (reply.status ≡ Good) × (told ≡ check write_error)). inr failed) is

@@ -37,8 +37,8 @@ abbrev pub IsUnflushed : Result ScsiCommand CdbFault → Result ScsiCommand CdbF
 IsUnflushed asked served = (f : Flushing) × (asked ≡ Ok (asked_by f)) × (served ≡ Ok (served_by f))
 
 -- What is told in place of a reply: it, and GOOD only behind a flush; or, in place of GOOD, that the flush has failed.
-abbrev pub IsTold : Type 0 → ReplyValue → ReplyValue → Type 0
-IsTold lasts reply told =
+abbrev pub IsToldBehindFlush : Type 0 → ReplyValue → ReplyValue → Type 0
+IsToldBehindFlush lasts reply told =
     ((told ≡ reply) × (reply.status ≡ Good → lasts))
     ⊎ ((reply.status ≡ Good) × (told ≡ check write_error))
 
@@ -56,4 +56,4 @@ pub record HasLateFlush (claims : Bool) (lasts : Type 0) (s : UnitState) (before
   pub answered : IsToldBehind false s before (Command session serial by asked bytes end) told
   pub first : ReplyValue
   pub replied_first : IsToldBehind claims s before (Command session serial by served bytes choice) first
-  pub told_is : IsTold lasts first told
+  pub told_is : IsToldBehindFlush lasts first told

@@ -22,7 +22,7 @@ use Rattle.unit_control.specs.declared.sessions.Attached.{Attached}
 use Rattle.unit_control.specs.Sessions.{session_of, next_of, all_reset}
 use Rattle.unit_control.specs.Entry.{Reset, Command, IsNext, IsAttached, control_after}
 use Rattle.unit_state.proofs.CommandLaws.{next_after, count_after}
-use Rattle.once_target.specs.OneUnit.{Call, Device, TargetValue, IsSame, IsCommand, IsAnsweredBy, IsResetBy}
+use Rattle.once_target.specs.OneUnit.{Call, Device, TargetValue, IsSame, IsCommand, IsTargetAnswer, IsResetBy}
 
 -- one that has its serial and is gone has no room
 pub gone_late : (c : ControlValue) (session serial : ℕ) → next_of c.sessions session ≡ Some serial
@@ -101,7 +101,7 @@ module _ {B : Type 0} (old new : TargetValue B) where
 module _ {B : Type 0} (d : Device B) (f : Device MemBlocks) (old new : TargetValue B) where
   -- what one fact tells of a session that is gone, another tells that follows
   pub answered_over : (late also : Type 0) → (late → also) → (call : Call) (a : TargetAnswer)
-      → IsAnsweredBy late d f old call a new → IsAnsweredBy also d f old call a new
+      → IsTargetAnswer late d f old call a new → IsTargetAnswer also d f old call a new
   answered_over late also follows call (Replied reply) k = k
   answered_over late also follows call (Outside reply) k = k
   answered_over late also follows call Busy k = k
@@ -110,7 +110,7 @@ module _ {B : Type 0} (d : Device B) (f : Device MemBlocks) (old new : TargetVal
   -- behind an answer the session's serial is the next still
   pub ready_answered : (late : Type 0) (call : Call) (a : TargetAnswer)
       → next_of old.unit.control.sessions old.at.session ≡ Some old.at.serial
-      → IsAnsweredBy late d f old call a new
+      → IsTargetAnswer late d f old call a new
       → next_of new.unit.control.sessions new.at.session ≡ Some new.at.serial
   ready_answered late call (Replied reply) next k =
       let by_owner : TargetValue B = k.1 in
@@ -136,7 +136,7 @@ module _ {B : Type 0} (d : Device B) (f : Device MemBlocks) (old new : TargetVal
         ∙ ap (λ (u : UnitValue B MemBlocks KeepOpener). u.control.count + 1) same.unit
 
     pub fits_answered : (a : TargetAnswer) → old.at.serial ≤ old.unit.control.count
-        → IsAnsweredBy late d f old call a new
+        → IsTargetAnswer late d f old call a new
         → new.at.serial ≤ new.unit.control.count
     fits_answered (Replied reply) fits k =
         let e = counted reply k.1 k.2 k.3 in

@@ -38,8 +38,8 @@ use Rattle.unit_state.specs.History.{state_after, IsLegal, IsReplyAt, has_failed
 use Rattle.unit_state.specs.Step.{IsStep, entry_of}
 use Rattle.unit_control.specs.declared.refusal.Refusal.{Refusal}
 use Rattle.unit_control.specs.Refusal.{refusal, request}
-use Rattle.unit_state.specs.Step.{OnRefusal}
-use Rattle.once_target.specs.OneUnit.{Call, Device, TargetValue, IsSame, IsCommand, IsBusy, IsAnsweredBy, IsResetBy, LeadsOn}
+use Rattle.unit_state.specs.Step.{WhereRefused}
+use Rattle.once_target.specs.OneUnit.{Call, Device, TargetValue, IsSame, IsCommand, IsBusy, IsTargetAnswer, IsResetBy, LeadsOn}
 use Rattle.once_target.specs.Once.{RepliedCall, EnteredCall, replied, was_reset, entered_by, entered, IsEntryOf, AreCommands}
 use Rattle.once_target.specs.Once.{IsAnswerable, AreAnswerable, AreCounted, AreUnreached, IsUnreached, IsFlushed}
 use Rattle.once_target.specs.Once.{Streams, IsBegun, IsOnce, begun}
@@ -231,7 +231,7 @@ module _ {B : Type 0} (d : Device B) (f : Device MemBlocks) where
   }
 
   -- a command that a rule refuses did not reach the device
-  left_alone : (o : Option Refusal) (P : Type 0) → OnRefusal o P → IsSome o → P
+  left_alone : (o : Option Refusal) (P : Type 0) → WhereRefused o P → IsSome o → P
   left_alone (Some refused) P k some = k
   left_alone None P k some = absurd (cc)
 
@@ -245,13 +245,13 @@ module _ {B : Type 0} (d : Device B) (f : Device MemBlocks) where
         → IsSome (refusal s.control (request 0 asked bytes)) → mid.unit.device ≡ x.unit.device
     unreached_here unit done some =
         left_alone (refusal x.unit.control (request 0 asked bytes)) (mid.unit.device ≡ x.unit.device)
-        (subst (λ (n : ℕ). OnRefusal (refusal x.unit.control (request n asked bytes))
+        (subst (λ (n : ℕ). WhereRefused (refusal x.unit.control (request n asked bytes))
         (mid.unit.device ≡ x.unit.device)) zero_is done.lasting.unreached)
         (subst (λ (c : ControlValue). IsSome (refusal c (request 0 asked bytes))) m.control some)
 
   next : (unit : Option ℕ) (asked : Result ScsiCommand CdbFault) (bytes : List ℕ) (a : TargetAnswer)
       (cs : List Asking) (s : UnitState) (x mid x' : TargetValue B) → x.at.session ≡ 0 → Matches s x
-      → IsAnsweredBy (last_length ≤ x.unit.control.count) d f x (record { unit = unit; asked = asked; bytes = bytes }) a mid
+      → IsTargetAnswer (last_length ≤ x.unit.control.count) d f x (record { unit = unit; asked = asked; bytes = bytes }) a mid
       → ((s' : UnitState) → mid.at.session ≡ 0 → Matches s' mid → Story s' mid x' cs)
       → Story s x x' (served unit asked bytes a ∷ cs)
   next unit asked bytes (Replied reply) cs s x mid x' zero_is m led rest =

@@ -26,7 +26,7 @@ use Rattle.unit_control.specs.Crash.{HoldsAsBefore, LeavesAmong, holds_with}
 use Rattle.unit_control.specs.Entry.{Reset, IsAttached, IsNext, control_after}
 use Rattle.unit_control.specs.Medium.{work_asked}
 use Rattle.unit_control.specs.Refusal.{Request, refusal, request}
-use Rattle.unit_state.specs.Step.{IsStep, OnRefusal, TakesMemory, asks_file, asks_medium, entry_of}
+use Rattle.unit_state.specs.Step.{IsStep, WhereRefused, TakesMemory, asks_file, asks_medium, entry_of}
 use Rattle.unit_state.specs.declared.unit.StepEnd.{StepEnd}
 use Rattle.unit_state.specs.declared.unit.StepEnd.TheVariants as ends
 use Rattle.once_target.specs.declared.attachment.Attachment.{Attachment}
@@ -77,7 +77,7 @@ pub record IsLasting {B : Type 0} (d : Device B) (f : Device MemBlocks) (old new
       → HoldsAsBefore d.moment d.left_since d.may_hold old.unit.device new.unit.device
   pub restart : IsTrue f.claims → EachOutcomeHolds (f.size new.unit.file.device) (f.may_hold new.unit.file.device)
       new.unit.control.lasting
-  pub unreached : OnRefusal (refusal old.unit.control (request_of old call)) (new.unit.device ≡ old.unit.device)
+  pub unreached : WhereRefused (refusal old.unit.control (request_of old call)) (new.unit.device ≡ old.unit.device)
   pub unsaved : asks_file old.unit.control (request_of old call) ≡ false → new.unit.file ≡ old.unit.file
 
 -- A command of the session was one step of the unit, which tells the truth of failures, also of each kind by itself, and makes
@@ -129,14 +129,14 @@ IsBusy c session call =
 
 -- What the target answers to a command: of its unit a command's step; that there was no memory for it, or that its
 -- session is gone, which tells the first of these facts, and nothing happened; of another unit that it is not there.
-abbrev pub IsAnsweredBy : {B : Type 0} → Type 0 → Device B → Device MemBlocks → TargetValue B → Call → TargetAnswer
+abbrev pub IsTargetAnswer : {B : Type 0} → Type 0 → Device B → Device MemBlocks → TargetValue B → Call → TargetAnswer
     → TargetValue B → Type 0
-IsAnsweredBy {B} late d f old call (Replied reply) new =
+IsTargetAnswer {B} late d f old call (Replied reply) new =
     (call.unit ≡ Some 0) × (by_owner : TargetValue B) × IsSame old by_owner × IsCommand d f by_owner new call reply
-IsAnsweredBy late d f old call (Outside reply) new =
+IsTargetAnswer late d f old call (Outside reply) new =
     (call.unit ≢ Some 0) × (reply ≡ absent_reply call.asked) × IsSame old new
-IsAnsweredBy late d f old call Busy new = IsBusy old.unit.control old.at.session call × IsSame old new
-IsAnsweredBy late d f old call Gone new = (call.unit ≡ Some 0) × IsSame old new × late
+IsTargetAnswer late d f old call Busy new = IsBusy old.unit.control old.at.session call × IsSame old new
+IsTargetAnswer late d f old call Gone new = (call.unit ≡ Some 0) × IsSame old new × late
 
 -- what is answered for a unit that is not there: that it is not, or that there was no memory to tell it
 abbrev pub IsAbsent : Result ScsiCommand CdbFault → TargetAnswer → Type 0
@@ -165,7 +165,7 @@ IsResetBy late old unit resets.Failed new = (unit ≢ 0) × IsSame old new
 abbrev pub LeadsOn : {B : Type 0} → Device B → Device MemBlocks → TargetValue B → Asking → TargetValue B → Type 0
 LeadsOn d f old (began port kind answer) new = (answer ≡ Refused) × IsSame old new
 LeadsOn d f old (lives tsih port answer) new = (answer ≡ false) × IsSame old new
-LeadsOn d f old (served unit asked bytes answer) new = IsAnsweredBy (last_length ≤ old.unit.control.count) d f old
+LeadsOn d f old (served unit asked bytes answer) new = IsTargetAnswer (last_length ≤ old.unit.control.count) d f old
     (record { unit = unit; asked = asked; bytes = bytes }) answer new
 LeadsOn d f old (reset unit answer) new = IsResetBy (last_length ≤ old.unit.control.count) old unit answer new
 LeadsOn d f old over new = IsSame old new

@@ -1,12 +1,12 @@
 //! A session at a unit: how its commands are submitted, and what a target answers for them.
 ghost use Rattle.std.specs.Prelude.{◌≡◌, ◌<◌, ◌≤◌, IfOk, Some};
 ghost use Rattle.once_target.specs.Once.{nothing, place};
-ghost use Rattle.once_target.specs.OneUnit.{IsStepped, IsOwnStep, IsAnsweredBy, IsResetBy, IsAbsent};
+ghost use Rattle.once_target.specs.OneUnit.{IsStepped, IsOwnStep, IsTargetAnswer, IsResetBy, IsAbsent};
 ghost use Rattle.unit_control.specs.Entry.{IsAttached, IsNext};
 ghost use Rattle.unit_control.specs.State.{opening_control};
 
 use aptpl_file::{FILE_BLOCKS, RegFile};
-use block_file::{Blocks, KeepOpener, MemBlocks, Room};
+use block_file::{Blocks, KeepOpener, MemBlocks, ReplyMemory};
 use identity::absent;
 use reservations::Record;
 use scsi_types::{Asked, Group, NoMemory, Place};
@@ -60,7 +60,8 @@ fn step<B: Blocks>(
     ensures { IsStepped B.Blocks ⟦<MemBlocks as Blocks>⟧ (record { unit = unit.old; at = at.old })
         (record { unit = Some 0; asked = asked; bytes = bytes.now }) result (record { unit = unit.new; at = at.new }) }
 {
-    match unit.step(Room::new(alloc), at.session, at.serial, at.by, asked, bytes) {
+    let room = ReplyMemory::new(alloc);
+    match unit.step(room, at.session, at.serial, at.by, asked, bytes) {
         StepEnd::Reply(reply) => {
             at.serial += 1;
             StepEnd::Reply(reply)
@@ -111,7 +112,7 @@ pub fn answer<B: Blocks>(
     bytes: &[u8],
 ) -> TargetAnswer
     requires { at.old.serial ≤ unit.old.control.count }
-    ensures { IsAnsweredBy (IsNext unit.old.control at.old.session at.old.serial → ⊥) B.Blocks
+    ensures { IsTargetAnswer (IsNext unit.old.control at.old.session at.old.serial → ⊥) B.Blocks
         ⟦<MemBlocks as Blocks>⟧ (record { unit = unit.old; at = at.old })
         (record { unit = number; asked = asked; bytes = bytes.now }) result (record { unit = unit.new; at = at.new }) }
 {

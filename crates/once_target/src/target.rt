@@ -4,7 +4,7 @@ ghost use Rattle.aptpl_file.specs.Lasts.{EachOutcomeHolds};
 ghost use Rattle.once_target.specs.Once.{IsBegun};
 
 use crate::attachment::{Attachment, answer, open, reset};
-use block_file::{Blocks, KeepOpener, MemBlocks, Room};
+use block_file::{Blocks, KeepOpener, MemBlocks, ReplyMemory};
 use login::SessionType;
 use scsi_types::{Asked, Command, Group, NoMemory, PortName};
 use session::{BeginAnswer, ResetAnswer, Target, TargetAnswer};
@@ -55,7 +55,7 @@ impl<B: Blocks> OneUnit<B> {
         let by = Group::One;
         // Takes the attention that the unit was powered on.
         match unit.step(
-            Room::new(alloc),
+            ReplyMemory::new(alloc),
             session,
             1,
             by,

@@ -21,7 +21,7 @@ use Rattle.unit_lock.specs.declared.machine.Refused.TheVariants as refusals
 use Rattle.unit_control.specs.Entry.{Entry, Command}
 use Rattle.unit_entries.specs.Histories.{IsHistory, IsCommand, IsToldBehind, is_own, own}
 use Rattle.unit_history.specs.Calls.{HasServed}
-use Rattle.late_flushes.specs.Flushes.{Flushing, asked_by, served_by, IsTold}
+use Rattle.late_flushes.specs.Flushes.{Flushing, asked_by, served_by, IsToldBehindFlush}
 use Rattle.portal.specs.Late.{Late, late_at, IsToldEnd}
 use Rattle.portal.specs.Units.{Claims, IsSubmitted, IsResetBy}
 use Rattle.portal.specs.Submitted.{At, held_of, IsOnce, IsSettled, IsTwice, IsServed, IsResetAnswer, answer_of, is_moved}
@@ -207,7 +207,7 @@ module _ (claims : Claims) (late : Late) (s : UnitState) where
 
     late_is : (before : List Entry) (reply told : ReplyValue) (e : Entry)
         → IsCommand old.session old.serial by_group (Ok (served_by f)) bytes e → IsToldBehind claims.contents s before e reply
-        → new.seen ≡ before ++ e ∷ [] → IsHistory claims.contents s new.seen → IsTold (late.lasts behind) reply told
+        → new.seen ≡ before ++ e ∷ [] → IsHistory claims.contents s new.seen → IsToldBehindFlush (late.lasts behind) reply told
         → IsEntry claims late s before e (replied (Ok (asked_by f)) bytes told)
     late_is before reply told e is replied_is seen legal ended =
         let c : Entry = Command old.session old.serial by_group (Ok (served_by f)) bytes is.0 in
@@ -228,7 +228,7 @@ module _ (claims : Claims) (late : Late) (s : UnitState) where
         )
 
     grows_told : (reply told : ReplyValue) → HasServed claims.contents s old new by_group (Ok (served_by f)) bytes reply
-        → IsTold (late.lasts behind) reply told → Grows old new (replied (Ok (asked_by f)) bytes told ∷ [])
+        → IsToldBehindFlush (late.lasts behind) reply told → Grows old new (replied (Ok (asked_by f)) bytes told ∷ [])
     grows_told reply told is ended =
         let a = is.0 in
         grows_added old new a.0 a.1 (replied (Ok (asked_by f)) bytes told) a.2 a.3 a.4 is.1.0

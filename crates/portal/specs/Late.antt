@@ -2,7 +2,7 @@
 use Rattle.std.specs.Prelude.{◌≡◌, ℕ, Bool, false, Result, Ok, Err}
 use Rattle.unit_lock.specs.Calls.{PlacedPass}
 use Rattle.scsi_types.specs.ReplyValue.{ReplyValue}
-use Rattle.late_flushes.specs.Flushes.{IsTold}
+use Rattle.late_flushes.specs.Flushes.{IsToldBehindFlush}
 use Rattle.unit_control.specs.Entry.{Entry}
 use Rattle.portal.specs.declared.units.Unserved.{Unserved}
 
@@ -25,7 +25,7 @@ never = late_of false (λ pass. ⊥)
 
 -- what a command comes to whose flush came behind it
 abbrev pub IsToldEnd : Type 0 → Result ReplyValue Unserved → Result ReplyValue Unserved → Type 0
-IsToldEnd lasts (Ok reply) (Ok told) = IsTold lasts reply told
+IsToldEnd lasts (Ok reply) (Ok told) = IsToldBehindFlush lasts reply told
 IsToldEnd lasts (Ok reply) (Err why) = ⊥
 IsToldEnd lasts (Err why) (Ok told) = ⊥
 IsToldEnd lasts (Err why) (Err same) = same ≡ why

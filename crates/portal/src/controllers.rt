@@ -3,7 +3,7 @@ ghost use Rattle.std.specs.Prelude.{◌≡◌, IfOk};
 
 use crate::units::{LogicalUnits, Pass, Unserved};
 use array_units::Units;
-use block_file::{Blocks, Opener, Room};
+use block_file::{Blocks, Opener, ReplyMemory};
 use forwarding::Desk;
 use scsi_types::{Asked, Group, NoMemory, PortName, Reply};
 use std::alloc::Global;
@@ -131,7 +131,7 @@ impl<B: Blocks, F: Blocks, O: Opener<B>, N: Array<Opened>> LogicalUnits<
     fn serve<W: Wait>(
         &self,
         rt: &W,
-        room: Room,
+        room: ReplyMemory,
         pass: UnitPass<B, F, O, N>,
         by_group: Group,
         asked: &Asked,

@@ -5,7 +5,7 @@ ghost use Rattle.unit_lock.specs.Calls.{PlacedPass};
 ghost use Rattle.unit_control.specs.Entry.{Entry};
 
 use crate::units::Pass;
-use block_file::Room;
+use block_file::ReplyMemory;
 use disk_preparer::Preparer;
 use scsi_types::{Asked, Command};
 use std::marker::{Brand, Model, PhantomData};
@@ -25,7 +25,7 @@ pub trait Gate {
 
     /// The same for a READ: its blocks are read beside the unit, into the memory that is ready in this room, where that can be done. The
     /// unit takes them if no write has ended since, and else reads them once more.
-    fn read(&self, _unit: usize, _serial: u64, _asked: &Asked, room: Room) -> Room {
+    fn read(&self, _unit: usize, _serial: u64, _asked: &Asked, room: ReplyMemory) -> ReplyMemory {
         room
     }
 
@@ -116,7 +116,7 @@ impl<P: Preparer, N: Disks> Gate for Prepared<P, N> {
     }
 
     // With FUA the blocks come from the medium: these the unit alone reads. Where no memory is ready, they are only fetched.
-    fn read(&self, unit: usize, serial: u64, asked: &Asked, room: Room) -> Room {
+    fn read(&self, unit: usize, serial: u64, asked: &Asked, room: ReplyMemory) -> ReplyMemory {
         let (lba, blocks) = match asked {
             Ok(Command::Read { lba, blocks, fua }) if !*fua => (*lba, *blocks),
             _ => return room,
@@ -129,11 +129,11 @@ impl<P: Preparer, N: Disks> Gate for Prepared<P, N> {
             if is_wanted {
                 preparer.fetch(lba, blocks);
             }
-            return Room::new(alloc);
+            return ReplyMemory::new(alloc);
         };
         match preparer.read(lba, ready.bytes, is_wanted) {
-            Some(memory) => Room::with(alloc, memory),
-            None => Room::new(alloc),
+            Some(memory) => ReplyMemory::with(alloc, memory),
+            None => ReplyMemory::new(alloc),
         }
     }
 

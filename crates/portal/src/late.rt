@@ -1,5 +1,5 @@
 //! What is told of commands whose flush comes behind them, when their unit is free again for others.
-ghost use Rattle.late_flushes.specs.Flushes.{IsTold};
+ghost use Rattle.late_flushes.specs.Flushes.{IsToldBehindFlush};
 
 use crate::gate::Gate;
 use crate::units::Pass;
@@ -14,7 +14,7 @@ pub(crate) fn answer_behind_flush<G: Gate, P: Pass>(
     pass: &P,
     reply: Reply,
 ) -> Reply
-    ensures { IsTold (G.lasts (P.held pass.now)) reply result }
+    ensures { IsToldBehindFlush (G.lasts (P.held pass.now)) reply result }
 {
     if reply.status() != Status::Good || gate.flush_behind(pass) {
         return reply;

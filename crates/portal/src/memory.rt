@@ -1,5 +1,5 @@
 //! Memory for what READs return, which is kept from one to the next.
-use block_file::{BLOCK_LENGTH, Room};
+use block_file::{BLOCK_LENGTH, ReplyMemory};
 use disk_preparer::BlockMemory;
 use scsi_types::{Asked, Command, MOST_BLOCKS};
 use std::alloc::Global;
@@ -87,14 +87,14 @@ impl Spares {
 
     /// The room of a command of the session that has this place: of a READ with memory for the blocks that it returns, unless it asks for
     /// more than it may.
-    pub fn room_for(&self, place: usize, alloc: Global, asked: &Asked) -> Room {
+    pub fn room_for(&self, place: usize, alloc: Global, asked: &Asked) -> ReplyMemory {
         let blocks = match asked {
             Ok(Command::Read { blocks, .. }) if *blocks <= MOST_BLOCKS => *blocks,
-            _ => return Room::new(alloc),
+            _ => return ReplyMemory::new(alloc),
         };
         match self.take(place, alloc, BLOCK_LENGTH * usize::from(blocks)) {
-            Some(bytes) => Room::with(alloc, BlockMemory::fresh(bytes)),
-            None => Room::new(alloc),
+            Some(bytes) => ReplyMemory::with(alloc, BlockMemory::fresh(bytes)),
+            None => ReplyMemory::new(alloc),
         }
     }
 }

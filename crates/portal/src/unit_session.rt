@@ -6,7 +6,7 @@ ghost use Rattle.portal.specs.Submitted.{IsCalled, IsOnce, IsServed, IsResetAnsw
 use crate::gate::Gate;
 use crate::late::answer_behind_flush;
 use crate::units::{LogicalUnits, Pass, Unserved};
-use block_file::Room;
+use block_file::ReplyMemory;
 use forwarding::DeskFault;
 use late_flushes::without_flush;
 use scsi_types::{Asked, Group, Reply};
@@ -75,7 +75,7 @@ fn believed_behind(by_group: Group, end: &Result<Reply, Unserved>) -> Group
 // Submits a command as it was asked; or without its flush, where that is left to the gate, and comes behind it.
 fn call<R: Wait, U: LogicalUnits<P, H>, P: Pass, H: Drop, G: Gate>(
     rt: &R,
-    room: Room,
+    room: ReplyMemory,
     units: &U,
     gate: &G,
     pass: P,
@@ -135,7 +135,7 @@ impl<P: Pass> UnitSession<P> {
     fn submit<R: Wait, U: LogicalUnits<P, H>, H: Drop, G: Gate>(
         &mut self,
         rt: &R,
-        room: Room,
+        room: ReplyMemory,
         units: &U,
         gate: &G,
         asked: &Asked,
@@ -161,7 +161,7 @@ impl<P: Pass> UnitSession<P> {
     pub fn serve<R: Wait, U: LogicalUnits<P, H>, H: Drop, G: Gate>(
         &mut self,
         rt: &R,
-        room: Room,
+        room: ReplyMemory,
         units: &U,
         gate: &G,
         asked: &Asked,
@@ -173,7 +173,7 @@ impl<P: Pass> UnitSession<P> {
         let alloc = room.alloc();
         match self.submit(rt, room, units, gate, asked, bytes) {
             Err(Unserved::ByUnit(Refused::Moved(_))) => {
-                answered(self.submit(rt, Room::new(alloc), units, gate, asked, bytes))
+                answered(self.submit(rt, ReplyMemory::new(alloc), units, gate, asked, bytes))
             }
             end => answered(end),
         }

@@ -8,7 +8,7 @@ ghost use Rattle.unit_control.specs.Entry.{Entry};
 ghost use Rattle.unit_history.specs.Calls.{HasAttached, HasNoRoom};
 ghost use Rattle.portal.specs.Units.{Claims, IsSubmitted, IsResetBy, IsRetired};
 
-use block_file::Room;
+use block_file::ReplyMemory;
 use forwarding::DeskFault;
 use scsi_types::{Asked, Group, PortName, Reply};
 use std::sync::Wait;
@@ -74,7 +74,7 @@ pub trait LogicalUnits<P: Pass, H: Drop> {
     fn serve<R: Wait>(
         &self,
         rt: &R,
-        room: Room,
+        room: ReplyMemory,
         pass: P,
         by_group: Group,
         asked: &Asked,

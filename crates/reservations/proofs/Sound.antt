@@ -14,7 +14,7 @@ use Rattle.reservations.specs.Notice.{Told, tellings}
 use Rattle.registrants.specs.Registry.{RegistryValue, IsSound, key_of, key_in, is_own, is_holders_key}
 use Rattle.registrants.specs.Registry.{is_the, is_registered, is_sole_holder, is_any, joined_by, left_to, most_registrants, others, registered_by}
 use Rattle.registrants.specs.Registry.{with_key_of, without_key, without_others_of_key, only}
-use Rattle.reservations.specs.Table.{Done, IsAnswer, effect_of, is_too_much, of_port, registration}
+use Rattle.reservations.specs.Table.{Done, HasEffect, effect_of, is_too_much, of_port, registration}
 use Rattle.registrants.proofs.Held.{hold_kept, left_held, made_held, registered_only}
 use Rattle.registrants.proofs.Held.{registered_others, registered_preempting, registered_registered}
 use Rattle.registrants.proofs.Held.{registered_without_key}
@@ -145,7 +145,7 @@ effect_sound r n q new told is s =
 
 -- a call that ends so leaves the registry sound
 pub stays_sound : (end : PrEnd) (old new : RegistryValue) (n : Nexus) (q : PrOut)
-    → IsAnswer end (effect_of old n q) old new → IsSound old.registrants old.reservation
+    → HasEffect end (effect_of old n q) old new → IsSound old.registrants old.reservation
     → IsSound new.registrants new.reservation
 stays_sound (Good telling) old new n q is s = effect_sound old n q new (tellings telling old.registrants) is s
 stays_sound Conflict old new n q is s = subst Sound (sym is.1) s

@@ -5,7 +5,7 @@ use Rattle.reservations.specs.declared.request.PrEnd.{PrEnd}
 use Rattle.reservations.specs.declared.request.PrOut.{PrOut}
 use Rattle.reservations.specs.declared.table.Table.{Table}
 use Rattle.registrants.specs.Registry.{IsAscending, RegistryValue, most_registrants}
-use Rattle.reservations.specs.Table.{Effect, IsAnswer}
+use Rattle.reservations.specs.Table.{Effect, HasEffect}
 
 abbrev pub value_of : Table → RegistryValue
 value_of t = record {
@@ -23,4 +23,4 @@ pub record IsReady (t : Table) : Type 0 where
 
 -- the call ended in what the table has for the request
 abbrev pub Does : (RegistryValue → Nexus → PrOut → Effect) → Table → Table → Nexus → PrOut → PrEnd → Type 0
-Does what old new n q end = IsAnswer end (what (value_of old) n q) (value_of old) (value_of new)
+Does what old new n q end = HasEffect end (what (value_of old) n q) (value_of old) (value_of new)

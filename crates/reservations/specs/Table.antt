@@ -262,7 +262,7 @@ effect_of r n q =
     else Conflicting
 
 -- a call that ends so has this effect: a refusal leaves the registry as it was
-abbrev pub IsAnswer : PrEnd → Effect → RegistryValue → RegistryValue → Type 0
-IsAnswer (Good telling) e old new = e ≡ Done new (tellings telling old.registrants)
-IsAnswer Conflict e old new = (e ≡ Conflicting) × (new ≡ old)
-IsAnswer (Illegal s) e old new = (e ≡ refused_with s) × (s ≡ illegal_request s.asc s.ascq) × (new ≡ old)
+abbrev pub HasEffect : PrEnd → Effect → RegistryValue → RegistryValue → Type 0
+HasEffect (Good telling) e old new = e ≡ Done new (tellings telling old.registrants)
+HasEffect Conflict e old new = (e ≡ Conflicting) × (new ≡ old)
+HasEffect (Illegal s) e old new = (e ≡ refused_with s) × (s ≡ illegal_request s.asc s.ascq) × (new ≡ old)

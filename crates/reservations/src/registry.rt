@@ -5,7 +5,7 @@ ghost use Rattle.registrants.specs.Nexus.{through};
 ghost use Rattle.reservations.specs.Notice.{code_told, tellings};
 ghost use Rattle.reservations.specs.Reading.{capabilities_bytes, full_status_bytes, keys_bytes, reservation_bytes};
 ghost use Rattle.registrants.specs.Registry.{IsSound, empty, powered_on, reserved_type, to_last};
-ghost use Rattle.reservations.specs.Table.{IsAnswer, effect_of};
+ghost use Rattle.reservations.specs.Table.{HasEffect, effect_of};
 
 use crate::table::{MOST_REGISTRANTS, Table};
 use crate::{
@@ -126,7 +126,7 @@ impl Registry {
     /// Does a PERSISTENT RESERVE OUT (SPC-4, 6.16) of the nexus of a port through a group. A refusal changes nothing. Takes no
     /// memory, so that nothing that fences can fail for want of it.
     pub fn out(&mut self, port: &PortName, group: Group, request: PrOut) -> PrEnd
-        ensures { IsAnswer result (effect_of self.old (through port.now group) request) self.old self.new }
+        ensures { HasEffect result (effect_of self.old (through port.now group) request) self.old self.new }
     {
         let sender = Nexus::new(port, group);
         self.table.out(&sender, request)

@@ -30,7 +30,7 @@ use Rattle.session_rules.specs.declared.verdict.Verdict.TheVariants.{Accepted, F
 use Rattle.session_rules.specs.Tasks.{is_response, r2ts_of, has_tag, Collecting}
 use Rattle.session_rules.specs.Transfer.{expected_transfer, transfer_of, sent_data}
 use Rattle.session_rules.specs.Answered.{Outcome, by_target, no_buffer, set_full, outcome_uncalled, outcome_of, command_at, Answered}
-use Rattle.session_rules.specs.Answered.{answered_by, answered_in, IsServed, IsCalled, outcome_data}
+use Rattle.session_rules.specs.Answered.{answered_by, answered_in, ServesCommands, IsCalled, outcome_data}
 use Rattle.session_rules.specs.Response.{responses, HasOneResponse, IsAnsweredAs, IsTelling, IsToldAs, sense_part}
 use Rattle.session_stream.specs.Pdus.{data_ins_for}
 
@@ -225,7 +225,7 @@ module _ (s : Counters) (cs : List Collecting) (immediate : Bool) (came : Incomi
 
 -- ---- a SCSI Command, and a Data-Out
 
-command_turn : (s : Counters) (b : List ℕ) (p : CommandHeader) (d : List ℕ) (call : Option Asking) → IsServed call
+command_turn : (s : Counters) (b : List ℕ) (p : CommandHeader) (d : List ℕ) (call : Option Asking) → ServesCommands call
     → IsJudged s.setting s.standing (pdu b (Initiator (ScsiCommand p)) d) Accepted
     → IsTurnOf s (pdu b (Initiator (ScsiCommand p)) d) Accepted call p p.immediate
 command_turn s b p d call serves judged = record {
@@ -238,7 +238,7 @@ command_turn s b p d call serves judged = record {
 }
 
 data_turn : (s : Counters) (b : List ℕ) (x : DataOutHeader) (d : List ℕ) (call : Option Asking) (this : Collecting)
-    → IsServed call → IsJudged s.setting s.standing (pdu b (Initiator (DataOut x)) d) Accepted
+    → ServesCommands call → IsJudged s.setting s.standing (pdu b (Initiator (DataOut x)) d) Accepted
     → find (has_tag x.task_tag) s.standing.collecting ≡ Some this
     → IsTurnOf s (pdu b (Initiator (DataOut x)) d) Accepted call this.command true
 data_turn s b x d call this serves judged found = record {

@@ -25,7 +25,7 @@ use Rattle.session_rules.specs.Phases.{Transcript, Exchange, exchanges, incoming
 use Rattle.session_full_feature.specs.Counters.{Counters}
 use Rattle.session_stream.specs.{declared.outbox.TheConstants.ENOUGH_TO_WRITE}
 use Rattle.session_stream.specs.Source.{AppendsFrom, Rises}
-use Rattle.session_stream.specs.Outbox.{OutboxValue, IsOut, IsWritten, IsClosed, IsClosedAs}
+use Rattle.session_stream.specs.Outbox.{OutboxValue, IsOut, IsAllOut, IsClosed, IsClosedAs}
 use Rattle.session_stream.proofs.Queues.{took, all_out_at_last, broke}
 use Rattle.session.specs.{Front.IsWhole, Front.IsFaulty, Inbox.Filled}
 use Rattle.session.specs.Stream.{PhasesValue, ExchangeOf, MakesExchange}
@@ -382,7 +382,7 @@ module _ {T : Type 0} {leads : T → Asking → T → Type 0} {units : ℕ} {me 
     many = many;
   }
 
-  pub flushed : (held'' : Option (List ℕ)) (now' : ℕ) (o' : OutboxValue) → IsWritten held' held'' now now' o o'
+  pub flushed : (held'' : Option (List ℕ)) (now' : ℕ) (o' : OutboxValue) → IsAllOut held' held'' now now' o o'
       → Running leads units me opening left left' held held'' before now' o' x x' p waiting reads None
   flushed held'' now' o' w = stays reads r.read (w held before r.least (bytes_of (outgoing r.es)) r.written) r.many
 

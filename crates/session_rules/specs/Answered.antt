@@ -70,18 +70,18 @@ abbrev pub answered_in : Standing → Incoming → Verdict → Option Asking →
 answered_in s came v call outs = answered_by (outcome_of v came call outs) (command_at s came) outs
 
 -- the target serves nothing but a command, in its own turn or in that of a Data-Out
-abbrev pub IsServed : Option Asking → Type 0
-IsServed None = Unit {0}
-IsServed (Some (served unit asked bytes answer)) = Unit {0}
-IsServed (Some (reset unit answer)) = ⊥
-IsServed (Some (began port kind answer)) = ⊥
-IsServed (Some (lives tsih port answer)) = ⊥
-IsServed (Some over) = ⊥
+abbrev pub ServesCommands : Option Asking → Type 0
+ServesCommands None = Unit {0}
+ServesCommands (Some (served unit asked bytes answer)) = Unit {0}
+ServesCommands (Some (reset unit answer)) = ⊥
+ServesCommands (Some (began port kind answer)) = ⊥
+ServesCommands (Some (lives tsih port answer)) = ⊥
+ServesCommands (Some over) = ⊥
 
 -- of the other requests a LOGICAL UNIT RESET of a unit that is there has its one Reset
 abbrev pub IsAcceptedCall : Setting → Standing → Incoming → Option Asking → Type 0
-IsAcceptedCall m s (pdu b (Initiator (ScsiCommand p)) d) call = IsServed call
-IsAcceptedCall m s (pdu b (Initiator (DataOut x)) d) call = IsServed call
+IsAcceptedCall m s (pdu b (Initiator (ScsiCommand p)) d) call = ServesCommands call
+IsAcceptedCall m s (pdu b (Initiator (DataOut x)) d) call = ServesCommands call
 IsAcceptedCall m s (pdu b (Initiator (NopOut p)) d) call = call ≡ None
 IsAcceptedCall m s (pdu b (Initiator (TaskManagementRequest p)) d) call =
     (response : Option ℕ) × (kept : List Collecting) × IsManaged m.units s.collecting p call response kept

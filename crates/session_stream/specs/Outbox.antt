@@ -27,8 +27,8 @@ IsQueued held held' before now o o' bytes =
     → IsOut first held begun before o least all → IsOut first held' begun now o' least (all ++ bytes)
 
 -- no more are to go out
-abbrev pub IsWritten : Option (List ℕ) → Option (List ℕ) → ℕ → ℕ → OutboxValue → OutboxValue → Type 0
-IsWritten held held' before now o o' =
+abbrev pub IsAllOut : Option (List ℕ) → Option (List ℕ) → ℕ → ℕ → OutboxValue → OutboxValue → Type 0
+IsAllOut held held' before now o o' =
     (first : Option (List ℕ)) (begun least : ℕ) (all : List ℕ)
     → IsOut first held begun before o least all → IsOut first held' begun now o' least all
 

@@ -1,6 +1,6 @@
 ghost use Rattle.std.specs.Prelude.{◌≡◌, ◌+◌, ◌++◌, ◌<◌, ◌≤◌, [], false, true, length, vec_capacity, IfOk, Some};
 ghost use Rattle.session_stream.specs.Pdus.{AreInReach, data_ins_of, sent_by};
-ghost use Rattle.session_stream.specs.Outbox.{OutboxValue, IsQueued, IsWritten};
+ghost use Rattle.session_stream.specs.Outbox.{OutboxValue, IsQueued, IsAllOut};
 ghost use Rattle.session_rules.specs.Response.{sense_part};
 ghost use Rattle.session_rules.specs.Turn.{bytes_of};
 ghost use Rattle.iscsi_pdu.specs.Spelling.{spelling};
@@ -99,7 +99,7 @@ impl Outbox {
 
     /// Writes what waits, in one write.
     pub fn flush<K: Sink>(&mut self, sink: &mut K)
-        ensures written { IsWritten (K.held sink.old) (K.held sink.new) (K.failures sink.old) (K.failures sink.new)
+        ensures written { IsAllOut (K.held sink.old) (K.held sink.new) (K.failures sink.old) (K.failures sink.new)
             self.old self.new }
         ensures all_written { self.new.waiting ≡ [] }
     {
@@ -199,7 +199,7 @@ impl Outbox {
 
 // Writes these bytes, unless the sink failed before or there are none: whether it failed.
 fn write_out<K: Sink>(sink: &mut K, bytes: &[u8], failed: bool) -> bool
-    ensures { IsWritten (K.held sink.old) (K.held sink.new) (K.failures sink.old) (K.failures sink.new)
+    ensures { IsAllOut (K.held sink.old) (K.held sink.new) (K.failures sink.old) (K.failures sink.new)
         (record { waiting = bytes.now; failed = failed }) (record { waiting = []; failed = result }) }
 {
     if failed || bytes.is_empty() {

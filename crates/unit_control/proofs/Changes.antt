@@ -8,7 +8,7 @@ use Rattle.access_states.specs.declared.state.Cause.TheVariants.{Explicit}
 use Rattle.scsi_types.specs.Cdb.{is_group_list}
 use Rattle.scsi_types.specs.ReplyValue.{ReplyValue, good}
 use Rattle.scsi_types.specs.declared.command.Command.TheVariants.{SetTargetPortGroups}
-use Rattle.unit_control.specs.Answer.{IsServed}
+use Rattle.unit_control.specs.Answer.{IsPerformed}
 use Rattle.unit_control.specs.Groups.{after_change, set_by, with_access}
 use Rattle.unit_control.specs.Medium.{Done}
 use Rattle.unit_control.specs.State.{ControlValue, unit_of}
@@ -31,7 +31,7 @@ pub set_served : (claims : Bool) (c now : ControlValue) (old new : List (List �
     (access : AccessMapValue) (reply : ReplyValue) → set_by c n bytes ≡ Ok access → now ≡ with_access c
     (Some session) access
     → (IsTrue claims → new ≡ old) → reply ≡ good []
-    → IsServed claims (unit_of c old) (unit_of now new) session (SetTargetPortGroups n) bytes reply
+    → IsPerformed claims (unit_of c old) (unit_of now new) session (SetTargetPortGroups n) bytes reply
 set_served claims c now old new session n bytes access reply set is same said = rw said (record {
   finding = Done [];
   chosen = tt;

@@ -37,8 +37,8 @@ pub record IsServedSo (claims : Bool) (old new : UnitState) (session : ℕ) (com
   pub control : new.control ≡ left_by old.control session command bytes choice
   pub answers : reply ≡ returned_by old.control session command bytes finding
 
-abbrev pub IsServed : Bool → UnitState → UnitState → ℕ → Command → List ℕ → ReplyValue → Type 0
-IsServed claims old new session command bytes reply =
+abbrev pub IsPerformed : Bool → UnitState → UnitState → ℕ → Command → List ℕ → ReplyValue → Type 0
+IsPerformed claims old new session command bytes reply =
     IsServedSo claims old new session command bytes (choice_of reply new.blocks new.control.lasting) reply
 
 -- After GOOD of a work with a flush a crash leaves the blocks that the unit holds, and after a read that failed behind its

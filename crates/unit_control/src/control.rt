@@ -110,7 +110,7 @@ impl Control {
     ghost use Rattle.reservations.specs.Notice.{tellings};
     ghost use Rattle.registrants.specs.Registry.{to_last};
     ghost use Rattle.reservations.specs.Table.{Done};
-    ghost use Rattle.reservations.specs.Table.{IsAnswer};
+    ghost use Rattle.reservations.specs.Table.{HasEffect};
     ghost use Rattle.unit_control.specs.Reserve.{after_effect, effect_by};
     ghost use Rattle.unit_control.specs.Saving.{with_doubt};
     ghost use Rattle.unit_control.specs.Route.{IsRouteOf};
@@ -328,7 +328,7 @@ impl Control {
     /// What a PERSISTENT RESERVE OUT of a session makes of the registry, in a registry of its own. Takes no memory.
     pub fn attempt(&self, scratch: &mut Registry, sender: Sender, asked: PrOut) -> PrEnd
         requires { IsPlaceOf self.now.sessions sender.session sender.at }
-        ensures { IsAnswer result (effect_by self.now sender.session asked) self.now.registry scratch.new }
+        ensures { HasEffect result (effect_by self.now sender.session asked) self.now.registry scratch.new }
     {
         let attached = &self.sessions[sender.at];
         scratch.set(&self.registry);

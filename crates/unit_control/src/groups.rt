@@ -1,7 +1,7 @@
 //! SET TARGET PORT GROUPS (SPC-4, 6.45), and what it shares with a move.
 ghost use Rattle.std.specs.Prelude.{◌≡◌, ◌≢◌, ◌&&◌, ℕ, false, true, Ok, OnOk, OnErr, IsTrue};
 ghost use Rattle.block_file.specs.Failures.{Counts, Tells};
-ghost use Rattle.unit_control.specs.Answer.{IsServed};
+ghost use Rattle.unit_control.specs.Answer.{IsPerformed};
 ghost use Rattle.access_states.specs.AccessMap.{owner_of};
 ghost use Rattle.unit_control.specs.Choice.{IsFine, choice_of};
 ghost use Rattle.unit_control.specs.Counts.{AreCounted, counters};
@@ -80,7 +80,7 @@ pub fn set_groups<B: Blocks, O: Opener<B>>(
     ensures size { B.size device.new ≡ B.size device.old }
     ensures lasting { control.new.lasting ≡ control.old.lasting }
     ensures stays { Stays control.old control.new sender.session sender.at }
-    ensures served { IsServed (O.claims && B.claims) (unit_of control.old (B.contents device.old))
+    ensures served { IsPerformed (O.claims && B.claims) (unit_of control.old (B.contents device.old))
         (unit_of control.new (B.contents device.new)) sender.session (SetTargetPortGroups list_length) bytes.now result }
     ensures unopened { is_opening control.old (Ok (SetTargetPortGroups list_length)) bytes.now ≡ false
         → opener.new ≡ opener.old }

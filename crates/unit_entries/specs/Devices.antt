@@ -20,7 +20,7 @@ use Rattle.unit_control.specs.Medium.{work_asked}
 use Rattle.unit_state.specs.Moves.{choice_of_move}
 use Rattle.unit_control.specs.Refusal.{Request, refusal, request}
 use Rattle.unit_control.specs.State.{UnitValue, failures_of}
-use Rattle.unit_state.specs.Step.{OnRefusal, asks_file, asks_medium, asks_opener}
+use Rattle.unit_state.specs.Step.{WhereRefused, asks_file, asks_medium, asks_opener}
 use Rattle.unit_state.specs.declared.unit.MoveFault.{MoveFault}
 
 -- What the devices of a unit say of themselves, by the names of their traits: that of its blocks, that of its registration
@@ -69,7 +69,7 @@ module _ {B R O : Type 0} (d : Devices B R O) where
         (saved_with (refusal old.control (request session asked bytes)) old.control (request session asked bytes)
         ++ old.control.lasting) old.file.device new.file.device
     -- a command that a rule refuses does not reach the blocks; no other than PERSISTENT RESERVE OUT reaches the file
-    pub unreached : OnRefusal (refusal old.control (request session asked bytes)) (new.device ≡ old.device)
+    pub unreached : WhereRefused (refusal old.control (request session asked bytes)) (new.device ≡ old.device)
     pub unsaved : asks_file old.control (request session asked bytes) ≡ false → new.file ≡ old.file
     pub unopened : asks_opener old.control (request session asked bytes) ≡ false → new.opener ≡ old.opener
     pub opened : IsOpened old new

@@ -4,7 +4,7 @@ ghost use Rattle.unit_entries.specs.RowOf.{row_of};
 
 use crate::entry::{Arrival, Noted, Opened};
 use access_states::Change;
-use block_file::{Blocks, DeviceFailed, Opener, Room};
+use block_file::{Blocks, DeviceFailed, Opener, ReplyMemory};
 use reservations::Registry;
 use scsi_types::{Asked, Group, Reply};
 use status::{Published, Row};
@@ -74,7 +74,7 @@ impl<B: Blocks, F: Blocks, O: Opener<B>> Machine<Noted, Opened> for Unit<B, F, O
 
     type Reply = Reply;
 
-    type Memory = Room;
+    type Memory = ReplyMemory;
 
     type Change = Change;
 
@@ -168,7 +168,7 @@ impl<B: Blocks, F: Blocks, O: Opener<B>> Machine<Noted, Opened> for Unit<B, F, O
 
     fn step(
         &mut self,
-        room: Room,
+        room: ReplyMemory,
         session: u64,
         serial: u64,
         by_group: &Group,

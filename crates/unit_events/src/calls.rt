@@ -8,7 +8,7 @@ ghost use Rattle.unit_state.specs.declared.unit.MoveFault.{MoveFault};
 ghost use Rattle.unit_events.specs.Entries.{IsUnitAttach, IsUnitEntry, IsUnitServing};
 
 use crate::job::{End, Job};
-use block_file::{Blocks, Opener, Room};
+use block_file::{Blocks, Opener, ReplyMemory};
 use scsi_types::{Group, PortName};
 use std::alloc::Global;
 use unit_history::{Arrival, Noted, Opened};
@@ -65,7 +65,7 @@ pub fn serve_unit<B: Blocks, F: Blocks, O: Opener<B>>(
     let at = unit.row().entries;
     match Machine::step(
         unit,
-        Room::new(alloc),
+        ReplyMemory::new(alloc),
         id,
         serial,
         &job.by_group,

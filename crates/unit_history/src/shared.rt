@@ -8,7 +8,7 @@ ghost use Rattle.unit_history.specs.Naming.{IsNamedAt};
 
 use crate::new_unit::NewUnit;
 use access_states::Change;
-use block_file::{Blocks, DeviceFailed, Opener, Room};
+use block_file::{Blocks, DeviceFailed, Opener, ReplyMemory};
 use reservations::Registry;
 use scsi_types::{Asked, Group, NoMemory, PortName, Reply};
 use status::{Board as StatusBoard, MOST_SEATS, Seat as BoardSeat};
@@ -108,7 +108,7 @@ impl<B: Blocks, F: Blocks, O: Opener<B>, N: Array<Opened>, const U: usize> Share
         &self,
         rt: &W,
         pass: Pass<B, F, O, N>,
-        room: Room,
+        room: ReplyMemory,
         by_group: &Group,
         asked: &Asked,
         bytes: &[u8],

@@ -7,7 +7,7 @@ use mathlib.Core.List.{IsPrefix}
 use prog.Atomic.{either}
 use Rattle.logbook.specs.Pages.{Cell, cell, keeps, no_nib, step, Moves, Goes}
 use Rattle.unit_sequence.specs.declared.right.Answer.{Answer}
-use Rattle.unit_sequence.specs.Rights.{IsCounted, Adds, Numbered, Looked}
+use Rattle.unit_sequence.specs.Rights.{IsCounted, AddsEntry, Numbered, AddedNothing}
 use Rattle.unit_sequence.proofs.Beginnings.{prefix_whole}
 
 abbrev shown : {E : Type 0} → List E → List E
@@ -18,7 +18,7 @@ answer n b = record { found = n; added = b }
 
 module _ {E : Type 0} where
   goes : (log v : List E) (e : E) → IsPrefix v log → (b : Bool) → (length log == length v) ≡ b
-      → Goes IsCounted shown (Adds e) 0 (v, (no_nib, None)) (λ n. either (n == length v) (length v + 1) n)
+      → Goes IsCounted shown (AddsEntry e) 0 (v, (no_nib, None)) (λ n. either (n == length v) (length v + 1) n)
       (Numbered (step 0 (length v) (length v + 1) e) (v, (no_nib, None))) ((length log, true) ∷ (0, true) ∷ []) log
   goes log v e pre true is =
       let here : length v ≡ length log = grind (arith, nat_tests) in
@@ -47,21 +47,21 @@ module _ {E : Type 0} where
       )
 
   pub adds_moves : (v : List E) (e : E) (old : ℕ) → old ≡ length v
-      → Moves IsCounted shown (Adds e) 0 (v, (no_nib, None)) (λ n. either (n == old) (old + 1) n)
+      → Moves IsCounted shown (AddsEntry e) 0 (v, (no_nib, None)) (λ n. either (n == old) (old + 1) n)
       (Numbered (step 0 old (old + 1) e) (v, (no_nib, None)))
   adds_moves v e old len = rw len (λ cs log kept pre away.
       let P : List Cell → Type 0 = λ c. (0 < length c) × ((cell c 0).1 ≡ true)
-      × Goes IsCounted shown (Adds e) 0 (v, (no_nib, None)) (λ n. either (n == length v) (length v + 1) n)
+      × Goes IsCounted shown (AddsEntry e) 0 (v, (no_nib, None)) (λ n. either (n == length v) (length v + 1) n)
       (Numbered (step 0 (length v) (length v + 1) e) (v, (no_nib, None))) c log in
       subst P (sym kept) (omega arith, refl, goes log v e pre (length log == length v) refl))
 
   pub looks_moves : (v : List E) (e : E)
-      → Moves IsCounted shown (Adds e) 0 (v, (no_nib, None)) (λ n. n) (Looked (step 0 0 0 e) (v, (no_nib, None)))
+      → Moves IsCounted shown (AddsEntry e) 0 (v, (no_nib, None)) (λ n. n) (AddedNothing (step 0 0 0 e) (v, (no_nib, None)))
   looks_moves v e cs log kept pre away =
       let P : List Cell → Type 0 = λ c. (0 < length c) × ((cell c 0).1 ≡ true)
-      × Goes IsCounted shown (Adds e) 0 (v, (no_nib, None)) (λ n. n) (Looked (step 0 0 0 e) (v, (no_nib, None))) c log in
+      × Goes IsCounted shown (AddsEntry e) 0 (v, (no_nib, None)) (λ n. n) (AddedNothing (step 0 0 0 e) (v, (no_nib, None))) c log in
       let all : log ++ [] ≡ log = append-nil log in
-      let here : Goes IsCounted shown (Adds e) 0 (v, (no_nib, None)) (λ n. n) (Looked (step 0 0 0 e) (v, (no_nib, None)))
+      let here : Goes IsCounted shown (AddsEntry e) 0 (v, (no_nib, None)) (λ n. n) (AddedNothing (step 0 0 0 e) (v, (no_nib, None)))
       ((length log, true) ∷ (0, true) ∷ []) log = (
         keeps,
         [],

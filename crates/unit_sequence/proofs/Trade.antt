@@ -16,7 +16,7 @@ use Rattle.logbook.specs.Pages.{Calm}
 use Rattle.logbook.specs.Kept.{part, halved, offer}
 use Rattle.logbook.proofs.Roster.{resets, joined}
 use Rattle.unit_sequence.specs.declared.right.Answer.{Answer}
-use Rattle.unit_sequence.specs.Rights.{first_of, right_owns, counts, count_after, gained, Adds}
+use Rattle.unit_sequence.specs.Rights.{first_of, right_owns, counts, count_after, gained, AddsEntry}
 
 pub calm : {E : Type 0} (names : List ℕ) → Calm {E = E} (counts names)
 calm names xs = entry_keyless halved (first_of names) 0 _
@@ -30,12 +30,12 @@ module _ {M : Type 1} {𝓤 : Ura M} (𝓛 : Logic 𝓤) where
   Pr = SProp 𝓤
 
   pub trades : {E : Type 0} (names : List ℕ) (log : List E) (ask : E)
-      → ent 𝓤 (sem 𝓛 (right_owns (first_of names) (length log))) (sem 𝓛 (offer (counts names) (Adds ask) (gained names log)))
+      → ent 𝓤 (sem 𝓛 (right_owns (first_of names) (length log))) (sem 𝓛 (offer (counts names) (AddsEntry ask) (gained names log)))
   trades {E} names log ask =
       let δ : ℕ = first_of names in let n : ℕ = length log in
       let Z : List E × List E × Answer → Pr = λ z. sep 𝓤 (sem 𝓛 (counts names z.1)) (sem 𝓛 (gained names log z.2)) in
       let N : List E × List E × Answer → Pr = λ z. wand 𝓤 (sem 𝓛 (counts names z.0)) (upd 𝓤 (Z z)) in
-      all_i 𝓤 (λ (z : List E × List E × Answer). all 𝓤 (λ (_ : Adds ask z.0 z.1 z.2). N z)) (λ z. all_i 𝓤 (λ (_ : Adds ask z.0 z.1 z.2). N z) (λ m.
+      all_i 𝓤 (λ (z : List E × List E × Answer). all 𝓤 (λ (_ : AddsEntry ask z.0 z.1 z.2). N z)) (λ z. all_i 𝓤 (λ (_ : AddsEntry ask z.0 z.1 z.2). N z) (λ m.
       let u : ℕ = length z.1 in
       qed 𝓛 (‵ (right_owns δ n) ∷ []) ∵ assume ! (‵ (counts names z.0)) $ move ! (1 ∷ 0 ∷ []) $
       use2 𝓛 (given (n ≡ length z.0) (‵ (part δ 0 full_share n))) (joined 𝓛 δ 0 n (length z.0)) $ learn ! (λ same.

@@ -36,8 +36,8 @@ abbrev pub count_after : Answer → ℕ
 count_after r = cond r.added (suc r.found) r.found
 
 -- a step of the right's holder finds the length of the history, and adds its entry or nothing
-abbrev pub Adds : {E : Type 0} → E → List E → List E → Answer → Type 0
-Adds ask before after r = (r.found ≡ length before) × (after ≡ cond r.added (before ++ ask ∷ []) before)
+abbrev pub AddsEntry : {E : Type 0} → E → List E → List E → Answer → Type 0
+AddsEntry ask before after r = (r.found ≡ length before) × (after ≡ cond r.added (before ++ ask ∷ []) before)
 
 -- behind it the holder has the right again, and knows that the history was as long as it had counted
 abbrev pub gained : {E : Type 0} → List ℕ → List E → Answer → Fml
@@ -54,5 +54,5 @@ Numbered s v found w = (r : Answer) × (w.1.1 ≡ Some r) × (r.found ≡ found)
     × (found ≡ s.old → (r.added ≡ true) × (w.0 ≡ v.0 ++ s.ask ∷ []))
 
 -- it ran on the history that was then seen, and added nothing
-abbrev pub Looked : {E : Type 0} → Step E → View E Answer → ℕ → View E Answer → Type 0
-Looked s v found w = (r : Answer) × (w.1.1 ≡ Some r) × (r.found ≡ length w.0) × (r.added ≡ false)
+abbrev pub AddedNothing : {E : Type 0} → Step E → View E Answer → ℕ → View E Answer → Type 0
+AddedNothing s v found w = (r : Answer) × (w.1.1 ≡ Some r) × (r.found ≡ length w.0) × (r.added ≡ false)

@@ -13,9 +13,9 @@ use std::marker::{Model, PhantomData};
 pub struct Look;
 
 impl<E> Play<E, Answer> for Look {
-    ghost use Rattle.unit_sequence.specs.Rights.{Looked};
+    ghost use Rattle.unit_sequence.specs.Rights.{AddedNothing};
 
-    ghost then = { Looked };
+    ghost then = { AddedNothing };
 }
 
 /// A step of the right's holder that adds an entry.

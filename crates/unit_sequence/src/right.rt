@@ -17,7 +17,7 @@ pub struct Law;
 
 impl<E> Rule<E, Answer> for Law {
     ghost use Rattle.std.specs.Prelude.{[]};
-    ghost use Rattle.unit_sequence.specs.Rights.{IsCounted, counts, Adds};
+    ghost use Rattle.unit_sequence.specs.Rights.{IsCounted, counts, AddsEntry};
 
     ghost holds = { IsCounted };
 
@@ -29,7 +29,7 @@ impl<E> Rule<E, Answer> for Law {
 
     ghost keeps = { λ names log. counts names log };
 
-    ghost moves = { λ ask before after answer. Adds ask before after answer };
+    ghost moves = { λ ask before after answer. AddsEntry ask before after answer };
 }
 
 /// The right to number an entry. It has counted all entries.

@@ -10,7 +10,7 @@ use Rattle.scsi_types.specs.ReplyValue.{ReplyValue}
 use Rattle.scsi_types.specs.declared.command.Command.{Command}
 use Rattle.scsi_types.specs.declared.command.CdbFault.{CdbFault}
 use Rattle.unit_control.specs.declared.refusal.Refusal.{Refusal}
-use Rattle.unit_control.specs.Answer.{IsServed, Lasts}
+use Rattle.unit_control.specs.Answer.{IsPerformed, Lasts}
 use Rattle.unit_control.specs.Choice.{Choice, Fine, IsFine, choice_of}
 use Rattle.unit_control.specs.Counts.{AreCounted, Counters, counters}
 use Rattle.unit_control.specs.Crash.{HoldsAsBefore, LeavesAmong, holds_after, saved_of}
@@ -22,7 +22,7 @@ use Rattle.unit_control.specs.Route.{IsAdmitted, IsRefused}
 use Rattle.unit_control.specs.State.{ControlValue, UnitState, UnitValue, unit_of}
 use Rattle.unit_control.proofs.Changes.{first_claims, second_claims}
 use Rattle.unit_state.specs.Answered.{HasLeft, HasReplied, LacksMemory, unit_over}
-use Rattle.unit_state.specs.Step.{MayTake, OnRefusal, is_reserving}
+use Rattle.unit_state.specs.Step.{MayTake, WhereRefused, is_reserving}
 use Rattle.unit_state.specs.declared.devices.UnitDevices.{UnitDevices}
 use Rattle.unit_state.proofs.PowerLoss.{as_before, idle_left, no_stop, opened_left, refused_left}
 use Rattle.unit_state.proofs.Steps.{done_answer, refused_answer, refused_lasts}
@@ -95,8 +95,8 @@ unit_from device opener file control = record { device = device; opener = opener
 
 -- of a type that claims less, less is said
 served_under : (claims more : Bool) (old new : UnitState) (session : ℕ) (command : Command) (bytes : List ℕ)
-    (reply : ReplyValue) → (IsTrue claims → IsTrue more) → IsServed more old new session command bytes reply
-    → IsServed claims old new session command bytes reply
+    (reply : ReplyValue) → (IsTrue claims → IsTrue more) → IsPerformed more old new session command bytes reply
+    → IsPerformed claims old new session command bytes reply
 served_under claims more old new session command bytes reply under s = record {
   finding = s.finding;
   chosen = s.chosen;
@@ -116,7 +116,7 @@ nothing_lasts blocks may_hold work reply is = rw is (record {
   unread = λ told first. absurd (cc);
 })
 
-reached : (refused : Option Refusal) (P : Type 0) → P → OnRefusal refused P
+reached : (refused : Option Refusal) (P : Type 0) → P → WhereRefused refused P
 reached (Some refused) P h = h
 reached None P h = tt
 
@@ -180,7 +180,7 @@ module _ {B R O : Type 0} (blocks : device.Ghosts B) (registrations : device.Gho
     }
 
     pub groups_reply : (reply : ReplyValue) → work_of command bytes ≡ Nothing
-        → IsServed (opens.claims && blocks.claims) (unit_of c (blocks.contents old)) (unit_of now (blocks.contents new))
+        → IsPerformed (opens.claims && blocks.claims) (unit_of c (blocks.contents old)) (unit_of now (blocks.contents new))
         session command bytes reply
         → ((saves : ℕ) → AreCounted
         (counters (blocks.reads_failed old) (blocks.writes_failed old) (opens.opens_failed before) saves)
@@ -231,7 +231,7 @@ module _ {B R O : Type 0} (blocks : device.Ghosts B) (registrations : device.Gho
     }
 
     pub reserve_replies : (reply : ReplyValue) → work_of command bytes ≡ Nothing
-        → IsServed (opens.claims && blocks.claims) (unit_of c (blocks.contents d)) (unit_of now (blocks.contents d))
+        → IsPerformed (opens.claims && blocks.claims) (unit_of c (blocks.contents d)) (unit_of now (blocks.contents d))
         session command bytes reply
         → ((contents : List (List ℕ)) (reads writes opened : ℕ) → AreCounted
         (counters reads writes opened (registrations.failures before.device))
@@ -274,7 +274,7 @@ module _ {B R O : Type 0} (blocks : device.Ghosts B) (registrations : device.Gho
     }
 
     pub performing_replies : {E : Type 0} (result : Result ReplyValue E)
-        → IfOk result (IsServed blocks.claims (unit_of c (blocks.contents old)) (unit_of now (blocks.contents new)) session
+        → IfOk result (IsPerformed blocks.claims (unit_of c (blocks.contents old)) (unit_of now (blocks.contents new)) session
         command bytes)
         → ((opened saved : ℕ) → IfOk result (λ reply. AreCounted
         (counters (blocks.reads_failed old) (blocks.writes_failed old) opened saved)

@@ -11,7 +11,7 @@ use Rattle.scsi_types.specs.ReplyValue.{ReplyValue, good, check}
 use Rattle.scsi_types.specs.Sense.{internal_target_failure}
 use Rattle.scsi_types.specs.declared.command.Command.{Command}
 use Rattle.scsi_types.specs.declared.command.Command.TheVariants as commands
-use Rattle.unit_control.specs.Answer.{IsServed}
+use Rattle.unit_control.specs.Answer.{IsPerformed}
 use Rattle.unit_control.specs.State.{ControlValue, unit_of}
 use Rattle.unit_control.specs.Choice.{Choice, Fine, ReadFailed, WriteFailed, OpenFailed, SaveFailed, choice_of}
 use Rattle.unit_control.specs.Entry.{MayCome, described, left_by, returned_by}
@@ -55,7 +55,7 @@ pub medium_served : (claims : Bool) (c now : ControlValue) (old new : List (List
     → ((finding : Finding) → returned_by c session command bytes finding ≡ reply_by finding)
     → ((choice : Choice) → left_by c session command bytes choice ≡ c) → now ≡ c
     → IsWorked claims old new (work_of command bytes) end read → kept ≡ read → reply ≡ reply_by (finding_at end kept)
-    → IsServed claims (unit_of c old) (unit_of now new) session command bytes reply
+    → IsPerformed claims (unit_of c old) (unit_of now new) session command bytes reply
 medium_served claims c now old new session command bytes read kept end reply medium leaves same_control worked same is =
     rw (is, same, same_control) (record {
       finding = finding_at end read;
@@ -73,7 +73,7 @@ pub other_served : (claims : Bool) (c now : ControlValue) (blocks : List (List �
     (bytes : List ℕ) (reply : ReplyValue) → work_of command bytes ≡ Nothing → choice_of reply blocks now.lasting ≡ Fine
     → now ≡ left_by c session command bytes Fine
     → reply ≡ returned_by c session command bytes (Done [])
-    → IsServed claims (unit_of c blocks) (unit_of now blocks) session command bytes reply
+    → IsPerformed claims (unit_of c blocks) (unit_of now blocks) session command bytes reply
 other_served claims c now blocks session command bytes reply nothing fine leaves is = rw fine (record {
   finding = Done [];
   chosen = tt;
@@ -88,7 +88,7 @@ other_served claims c now blocks session command bytes reply nothing fine leaves
 pub good_served : (claims : Bool) (c now : ControlValue) (blocks : List (List ℕ)) (session : ℕ) (command : Command)
     (bytes told : List ℕ) (reply : ReplyValue) → work_of command bytes ≡ Nothing → returned_by c session command bytes
     (Done []) ≡ good told → now ≡ left_by c session command bytes Fine → reply ≡ good told
-    → IsServed claims (unit_of c blocks) (unit_of now blocks) session command bytes reply
+    → IsPerformed claims (unit_of c blocks) (unit_of now blocks) session command bytes reply
 good_served claims c now blocks session command bytes told reply nothing returns leaves is =
     rw is (other_served claims c now blocks session command bytes (good told) nothing refl leaves (sym returns))
 
@@ -106,7 +106,7 @@ module _ (claims : Bool) (c now : ControlValue) (blocks : List (List ℕ)) (sess
   effect = effect_by c session (pr_out action scope kind bytes)
 
   reserved : (reply : ReplyValue) → now ≡ after_effect c effect → reply ≡ effect_reply effect
-      → IsServed claims (unit_of c blocks) (unit_of now blocks) session
+      → IsPerformed claims (unit_of c blocks) (unit_of now blocks) session
       (commands.PersistentReserveOut action scope kind n) bytes reply
   reserved reply leaves is =
       other_served claims c now blocks session (commands.PersistentReserveOut action scope kind n) bytes reply refl
@@ -114,7 +114,7 @@ module _ (claims : Bool) (c now : ControlValue) (blocks : List (List ℕ)) (sess
 
   unsaved : (reply : ReplyValue) → MayFailToSave c effect now.lasting → now ≡ with_doubt c now.lasting
       → reply ≡ check internal_target_failure
-      → IsServed claims (unit_of c blocks) (unit_of now blocks) session
+      → IsPerformed claims (unit_of c blocks) (unit_of now blocks) session
       (commands.PersistentReserveOut action scope kind n) bytes reply
   unsaved reply may leaves is = rw is (record {
     finding = SaveError;
@@ -128,7 +128,7 @@ module _ (claims : Bool) (c now : ControlValue) (blocks : List (List ℕ)) (sess
   })
 
   pub reserved_served : (reply : ReplyValue) → IsReserved c effect now reply
-      → IsServed claims (unit_of c blocks) (unit_of now blocks) session
+      → IsPerformed claims (unit_of c blocks) (unit_of now blocks) session
       (commands.PersistentReserveOut action scope kind n) bytes reply
   reserved_served reply is = ⊎_elim
       (λ (done : (now ≡ after_effect c effect) × (reply ≡ effect_reply effect)). reserved reply done.0 done.1)
@@ -140,7 +140,7 @@ pub reserved_ok : (claims : Bool) (c now : ControlValue) (blocks : List (List �
     (command : Command) (action : PrOutAction) (scope kind n : ℕ) (bytes : List ℕ) (asked : PrOut)
     (reply : ReplyValue) → command ≡ PersistentReserveOut action scope kind n
     → asked ≡ pr_out action scope kind bytes → IsReserved c (effect_by c session asked) now reply
-    → IsServed claims (unit_of c blocks) (unit_of now blocks) session command bytes reply
+    → IsPerformed claims (unit_of c blocks) (unit_of now blocks) session command bytes reply
 reserved_ok claims c now blocks session command action scope kind n bytes asked reply is same ends =
     rw is (reserved_served claims c now blocks session action scope kind n bytes reply
     (subst (λ (q : PrOut). IsReserved c (effect_by c session q) now reply) same ends))
@@ -150,7 +150,7 @@ reserved_ok claims c now blocks session command action scope kind n bytes asked 
 pub described_served : (claims : Bool) (c : ControlValue) (blocks : List (List ℕ)) (session : ℕ) (command : Command)
     (bytes told : List ℕ) (reply : ReplyValue) → IsTrue (is_describing command) → told ≡ described c session command
     → reply ≡ good told
-    → IsServed claims (unit_of c blocks) (unit_of c blocks) session command bytes reply
+    → IsPerformed claims (unit_of c blocks) (unit_of c blocks) session command bytes reply
 described_served claims c blocks session (commands.Inquiry page n) bytes told reply d is said =
     good_served claims c c blocks session _ bytes told reply refl (ap good (sym is)) refl said
 described_served claims c blocks session (commands.ModeSense header control page n) bytes told reply d is said =

@@ -19,9 +19,9 @@ use Rattle.unit_control.specs.Medium.{Work}
 use Rattle.unit_control.specs.Refusal.{Request, request, refusal, refusal_reply, refusal_control}
 use Rattle.unit_control.specs.Route.{IsRefused}
 use Rattle.unit_control.specs.Entry.{Entry, Command, IsNext, count_command}
-use Rattle.unit_control.specs.Answer.{IsAnswerWith, IsAnswer, IsServed, Lasts}
+use Rattle.unit_control.specs.Answer.{IsAnswerWith, IsAnswer, IsPerformed, Lasts}
 use Rattle.unit_state.specs.Answered.{LacksMemory}
-use Rattle.unit_state.specs.Step.{IsStep, OnRefusal, TakesMemory, entry_of}
+use Rattle.unit_state.specs.Step.{IsStep, WhereRefused, TakesMemory, entry_of}
 
 -- a command that a rule refuses
 pub refused_answer : (claims : Bool) (old new : ControlValue) (before now : List (List ℕ)) (r : Request)
@@ -38,7 +38,7 @@ refused_answer claims old new before now r refused reply is told control same = 
 
 -- a command that did what it asks
 pub done_answer : (claims : Bool) (old new : UnitState) (command : ScsiCommand) (bytes : List ℕ) (reply : ReplyValue)
-    (session : ℕ) → IsServed claims old new session command bytes reply
+    (session : ℕ) → IsPerformed claims old new session command bytes reply
     → IsAnswerWith claims old new (request session (Ok command) bytes) None
     (choice_of reply new.blocks new.control.lasting) reply
 done_answer claims old new command bytes reply session done = record {
@@ -83,10 +83,10 @@ lacking_seen {B = B} {R = R} {O = O} inside seen new r same lacks =
     (record { unrefused = lacks.unrefused; takes = lacks.takes })
 
 pub unreached_seen : {B R O : Type 0} (inside seen : UnitValue B R O) (r : Request) (new : B) → inside ≡ seen
-    → OnRefusal (refusal inside.control r) (new ≡ inside.device)
-    → OnRefusal (refusal seen.control r) (new ≡ seen.device)
+    → WhereRefused (refusal inside.control r) (new ≡ inside.device)
+    → WhereRefused (refusal seen.control r) (new ≡ seen.device)
 unreached_seen {B = B} {R = R} {O = O} inside seen r new same is =
-    subst (λ (u : UnitValue B R O). OnRefusal (refusal u.control r) (new ≡ u.device)) same is
+    subst (λ (u : UnitValue B R O). WhereRefused (refusal u.control r) (new ≡ u.device)) same is
 
 -- a crash leaves one of the records that the unit says
 pub restarts : {B : Type 0} (size : B → ℕ) (may_hold : B → ℕ → List ℕ → Type 0) (file : FileValue B)

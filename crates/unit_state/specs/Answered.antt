@@ -16,7 +16,7 @@ use Rattle.unit_control.specs.Medium.{work_asked}
 use Rattle.unit_control.specs.Places.{Stays}
 use Rattle.unit_control.specs.Refusal.{Request}
 use Rattle.unit_control.specs.State.{ControlValue, UnitValue, failures_of, state_of}
-use Rattle.unit_state.specs.Step.{MayTake, OnRefusal, opens_with, saves_with, works_with}
+use Rattle.unit_state.specs.Step.{MayTake, WhereRefused, opens_with, saves_with, works_with}
 use Rattle.unit_state.specs.declared.devices.UnitDevices.{UnitDevices}
 
 -- the unit of these devices and this control
@@ -42,7 +42,7 @@ module _ {B R O : Type 0} (blocks : device.Ghosts B) (registrations : device.Gho
         → LastsAmong registrations.size registrations.may_hold old.file old.control.lasting
         → LastsAmong registrations.size registrations.may_hold new.file new.control.lasting
     -- a command that a rule refuses, as one with CHECK CONDITION or RESERVATION CONFLICT (SAM-5, 5.3.1), reaches no medium
-    pub unreached : OnRefusal refused (new.device ≡ old.device)
+    pub unreached : WhereRefused refused (new.device ≡ old.device)
     -- nor does one that neither works on it (SBC-3: READ, WRITE, COMPARE AND WRITE, SYNCHRONIZE CACHE) nor changes the owner
     pub idle : works_with refused r ≡ false → opens_with refused old.control r ≡ false → new.device ≡ old.device
     -- the blocks are opened anew for SET TARGET PORT GROUPS alone, where it changes the owner (SPC-4, 6.45)

@@ -129,6 +129,6 @@ abbrev pub asks_medium : ControlValue → Request → Bool
 asks_medium c r = works_with (refusal c r) r
 
 -- a command that a rule refuses does not reach the device
-abbrev pub OnRefusal : Option Refusal → Type 0 → Type 0
-OnRefusal (Some refused) P = P
-OnRefusal None P = Unit {0}
+abbrev pub WhereRefused : Option Refusal → Type 0 → Type 0
+WhereRefused (Some refused) P = P
+WhereRefused None P = Unit {0}

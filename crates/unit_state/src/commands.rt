@@ -1,7 +1,7 @@
 //! What a command is answered.
 ghost use Rattle.std.specs.Prelude.{◌≡◌, ℕ, false, IsTrue, IfOk, OnErr, Ok, None};
 ghost use Rattle.block_file.specs.Failures.{Tells};
-ghost use Rattle.unit_control.specs.Answer.{IsServed, Lasts};
+ghost use Rattle.unit_control.specs.Answer.{IsPerformed, Lasts};
 ghost use Rattle.unit_control.specs.Choice.{IsFine, choice_of};
 ghost use Rattle.unit_control.specs.Counts.{AreCounted, counters};
 ghost use Rattle.unit_control.specs.Crash.{LeavesAmong, holds_after};
@@ -23,7 +23,7 @@ ghost use Rattle.unit_state.specs.Step.{MayTake, is_describing};
 use crate::devices::UnitDevices;
 use crate::reserve::{pr_out, reservation_data};
 use crate::rules::admit;
-use block_file::{BLOCK_LENGTH, Blocks, Opener, Room};
+use block_file::{BLOCK_LENGTH, Blocks, Opener, ReplyMemory};
 use identity::{
     inquiry, mode_sense, read_capacity_10, read_capacity_16, report_luns, request_sense,
 };
@@ -39,7 +39,7 @@ use unit_control::{Control, Refusal, Sender};
 pub fn answer<B: Blocks, F: Blocks, O: Opener<B>>(
     devices: &mut UnitDevices<B, F, O>,
     control: &mut Control,
-    room: Room,
+    room: ReplyMemory,
     sender: Sender,
     asked: Asked,
     bytes: &[u8],
@@ -84,7 +84,7 @@ fn refuse(control: &mut Control, sender: Sender, refusal: Refusal)
 fn serve<B: Blocks, F: Blocks, O: Opener<B>>(
     devices: &mut UnitDevices<B, F, O>,
     control: &mut Control,
-    room: Room,
+    room: ReplyMemory,
     sender: Sender,
     command: Command,
     bytes: &[u8],
@@ -145,7 +145,7 @@ fn serve<B: Blocks, F: Blocks, O: Opener<B>>(
 fn perform<B: Blocks>(
     device: &mut B,
     control: &mut Control,
-    room: Room,
+    room: ReplyMemory,
     sender: Sender,
     command: Command,
     bytes: &[u8],
@@ -161,7 +161,7 @@ fn perform<B: Blocks>(
     ensures err { OnErr result ((device.new ≡ device.old) × (control.new ≡ control.old)) }
     ensures idle { is_medium (work_of command bytes.now) ≡ false → device.new ≡ device.old }
     ensures memory { OnErr result (MayTake (Ok command)) }
-    ensures served { IfOk result (IsServed B.claims (unit_of control.old (B.contents device.old))
+    ensures served { IfOk result (IsPerformed B.claims (unit_of control.old (B.contents device.old))
         (unit_of control.new (B.contents device.new)) sender.session command bytes.now) }
     ensures access { control.new.access ≡ control.old.access }
     ensures counted { (opens saves : ℕ) → IfOk result (λ reply. AreCounted

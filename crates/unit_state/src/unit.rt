@@ -8,7 +8,7 @@ use crate::commands::answer;
 use crate::devices::UnitDevices;
 use access_states::{AsetFault, Cause, Change};
 use aptpl_file::RegFile;
-use block_file::{Blocks, DeviceFailed, Opener, Room};
+use block_file::{Blocks, DeviceFailed, Opener, ReplyMemory};
 use reservations::{Record, Registry};
 use scsi_types::{Asked, Group, NoMemory, Place, PortName, Reply};
 use std::alloc::Global;
@@ -83,7 +83,7 @@ impl<B: Blocks, F: Blocks, O: Opener<B>> Unit<B, F, O> {
     ghost use Rattle.unit_control.specs.Medium.{work_asked};
     ghost use Rattle.unit_control.specs.Groups.{is_moved_by, move_by};
     ghost use Rattle.unit_state.specs.Moves.{IsMove, choice_of_move};
-    ghost use Rattle.unit_state.specs.Step.{OnReply, OnNoReply, OnRefusal, IsRouted, IsStep, TakesMemory};
+    ghost use Rattle.unit_state.specs.Step.{OnReply, OnNoReply, WhereRefused, IsRouted, IsStep, TakesMemory};
     ghost use Rattle.unit_state.specs.Step.{asks_file, asks_medium, asks_opener, entry_of};
 
     /// Opens a unit over its blocks, of which there is one at least, with this registration file and the record that it
@@ -177,7 +177,7 @@ impl<B: Blocks, F: Blocks, O: Opener<B>> Unit<B, F, O> {
     /// Serves one command of a session, with the data that came for it.
     pub fn step(
         &mut self,
-        room: Room,
+        room: ReplyMemory,
         session: SessionId,
         serial: u64,
         by: Group,
@@ -214,7 +214,7 @@ impl<B: Blocks, F: Blocks, O: Opener<B>> Unit<B, F, O> {
             (saved_with (refusal self.old.control (request session asked bytes.now)) self.old.control
             (request session asked bytes.now) ++ self.old.control.lasting) self.old.file.device self.new.file.device }
         // A command that a rule refuses does not reach the device.
-        ensures unreached { OnReply result (λ reply. OnRefusal
+        ensures unreached { OnReply result (λ reply. WhereRefused
             (refusal self.old.control (request session asked bytes.now)) (self.new.device ≡ self.old.device)) }
         // Nor does one that neither works on the medium nor changes the owner.
         ensures idle { asks_medium self.old.control (request session asked bytes.now) ≡ false

@@ -13,7 +13,7 @@ use Rattle.unit_state.specs.Serials.{IsOpening}
 use Rattle.unit_entries.specs.Histories.{IsHistory, command}
 use Rattle.world.specs.Traffic.{Traffic, at_stage, attached, closed, given, in_lane, new_job, taken_from, waiting, with_waiting}
 use Rattle.world.specs.Events.{Scene, scene, with_entry, with_traffic, Takes, IsEntry, IsServed, IsServing, IsStep, AreSteps, IsReached, count_at, start}
-use Rattle.world.specs.Orders.{IsEntryOf, IsNone, IsNoted, IsOrderly, IsSubmittedBehind, IsToldAt}
+use Rattle.world.specs.Orders.{IsEntryAt, IsNone, IsNoted, IsOrderly, IsSubmittedBehind, IsToldAt}
 use Rattle.world.specs.declared.event.Event.{Event}
 use Rattle.world.specs.declared.event.Event.TheVariants as events
 use Rattle.world.specs.declared.note.Note.{Note}
@@ -278,7 +278,7 @@ module _ (claims : Bool) (units : ℕ) (opening : ℕ → UnitState) where
         ((holds.sound a.place).what i a is refl)
 
     none_of : (i at : ℕ) (a : Note) (what : What) → IsNone what → WhatOk claims (opening a.place) (w.past a.place) w.traffic.notes i a what
-        → IsEntryOf (w.past a.place) at a.session a.serial → IsSubmittedBehind w.traffic.notes i a at
+        → IsEntryAt (w.past a.place) at a.session a.serial → IsSubmittedBehind w.traffic.notes i a at
     none_of i at a Submitted none ok of = absurd none
     none_of i at a FlushBegan none ok of = absurd none
     none_of i at a (HasReply job reply k) none ok of = absurd none

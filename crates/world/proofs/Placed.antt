@@ -8,7 +8,7 @@ use Rattle.unit_control.specs.State.{UnitState}
 use Rattle.unit_control.specs.Entry.{Entry, Command, IsPossible, after}
 use Rattle.unit_state.specs.History.{state_after, IsLegal, IsReplyAt}
 use Rattle.unit_entries.specs.Histories.{IsToldBehind}
-use Rattle.late_flushes.specs.Flushes.{IsTold, IsUnflushed}
+use Rattle.late_flushes.specs.Flushes.{IsToldBehindFlush, IsUnflushed}
 use Rattle.late_flushes.proofs.FlushLaws.{late_flush_of}
 use Rattle.world.specs.Orders.{IsSettledAt}
 use Rattle.unit_events.specs.declared.job.Job.{Job}
@@ -50,7 +50,7 @@ placed claims s (x ∷ h) (suc at) e reply there replies legal =
 
 pub settled_at : (claims : Bool) (lasts : Type 0) (s : UnitState) (h : List Entry) (id serial : ℕ) (job : Job)
     (served : Result ScsiCommand CdbFault) (reply told : ReplyValue) (at : ℕ) → IsLegal claims s h → IsUnflushed job.asked served
-    → HasEntry claims s h id serial job.by_group served job.bytes reply at → IsTold lasts reply told
+    → HasEntry claims s h id serial job.by_group served job.bytes reply at → IsToldBehindFlush lasts reply told
     → IsSettledAt claims lasts s h id serial job told at
 settled_at claims lasts s h id serial job served reply told at legal off o ended =
     let it : Entry = Command id serial job.by_group served job.bytes o.is.0 in

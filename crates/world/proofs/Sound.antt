@@ -17,7 +17,7 @@ use Rattle.unit_state.specs.History.{IsReplyAt}
 use Rattle.unit_entries.specs.Histories.{IsCommand, command}
 use Rattle.late_flushes.specs.Flushes.{IsUnflushed}
 use Rattle.late_flushes.proofs.FlushLaws.{late_by}
-use Rattle.world.specs.Orders.{IsEntryOf, IsFlushedBehind, IsNone, IsNoted, IsSettledAt, IsSubmittedBehind}
+use Rattle.world.specs.Orders.{IsEntryAt, IsFlushedBehind, IsNone, IsNoted, IsSettledAt, IsSubmittedBehind}
 use Rattle.world.specs.declared.note.Note.{Note}
 use Rattle.world.specs.declared.note.What.{What}
 use Rattle.world.specs.declared.note.What.TheVariants.{Submitted, FlushBegan, Replied as HasReply, Settled, Busy, Gone}
@@ -74,8 +74,8 @@ counts_or_not (Command id serial group asked bytes choice) session =
     ))
     (λ (f : (nat_eq id session ≡ false) × (id ≢ session)). inl (rw f.0 refl)) (eqb_tells id session)
 
-entry_pushed : (h : List Entry) (e : Entry) (at session serial : ℕ) → IsEntryOf (h ++ e ∷ []) at session serial
-    → IsEntryOf h at session serial ⊎ ((at ≡ length h) × IsOf e session serial)
+entry_pushed : (h : List Entry) (e : Entry) (at session serial : ℕ) → IsEntryAt (h ++ e ∷ []) at session serial
+    → IsEntryAt h at session serial ⊎ ((at ≡ length h) × IsOf e session serial)
 entry_pushed h e at session serial of =
     ⊎_elim (λ (o : slice_get h at ≡ Some of.0). inl (of.0, o, of.2))
     (λ (t : (at ≡ length h) × (e ≡ of.0)). inr (t.0, subst (λ (x : Entry). IsOf x session serial) (sym t.1) of.2))
@@ -91,8 +91,8 @@ reply_kept claims s (x ∷ h) e (suc at) reply is = reply_kept claims (after s x
 
 -- no serial passes its session's count of commands, none stands twice, and a session to come has none
 pub record UnitOk (h : List Entry) : Type 0 where
-  pub below : (at session serial : ℕ) → IsEntryOf h at session serial → serial ≤ commands session h
-  pub once : (at other session serial : ℕ) → IsEntryOf h at session serial → IsEntryOf h other session serial → at ≡ other
+  pub below : (at session serial : ℕ) → IsEntryAt h at session serial → serial ≤ commands session h
+  pub once : (at other session serial : ℕ) → IsEntryAt h at session serial → IsEntryAt h other session serial → at ≡ other
   pub none : (session : ℕ) → length h ≤ session → commands session h ≡ 0
 
 pub no_entry : UnitOk []
@@ -107,28 +107,28 @@ abbrev pub Fits : List Entry → Entry → Type 0
 Fits h e = (session serial : ℕ) → IsOf e session serial → (commands session h + 1 ≡ serial) × (session < length h)
 
 module _ (h : List Entry) (e : Entry) (fits : Fits h e) (ok : UnitOk h) where
-  below_more : (at session serial : ℕ) → IsEntryOf (h ++ e ∷ []) at session serial → serial ≤ commands session (h ++ e ∷ [])
+  below_more : (at session serial : ℕ) → IsEntryAt (h ++ e ∷ []) at session serial → serial ≤ commands session (h ++ e ∷ [])
   below_more at session serial of =
       let more = commands_pushed session h e in
-      ⊎_elim (λ (o : IsEntryOf h at session serial). let le = ok.below at session serial o in omega arith)
+      ⊎_elim (λ (o : IsEntryAt h at session serial). let le = ok.below at session serial o in omega arith)
       (λ (t : (at ≡ length h) × IsOf e session serial).
       let f = (fits session serial t.1).0 in let one = counts e session serial t.1 in omega arith)
       (entry_pushed h e at session serial of)
 
-  apart : (at session serial : ℕ) → IsEntryOf h at session serial → IsOf e session serial → ⊥
+  apart : (at session serial : ℕ) → IsEntryAt h at session serial → IsOf e session serial → ⊥
   apart at session serial o t =
       let le = ok.below at session serial o in let f = (fits session serial t).0 in absurd (omega arith)
 
-  once_more : (at other session serial : ℕ) → IsEntryOf (h ++ e ∷ []) at session serial
-      → IsEntryOf (h ++ e ∷ []) other session serial → at ≡ other
+  once_more : (at other session serial : ℕ) → IsEntryAt (h ++ e ∷ []) at session serial
+      → IsEntryAt (h ++ e ∷ []) other session serial → at ≡ other
   once_more at other session serial of also =
       ⊎_elim
-      (λ (o : IsEntryOf h at session serial).
-      ⊎_elim (λ (p : IsEntryOf h other session serial). ok.once at other session serial o p)
+      (λ (o : IsEntryAt h at session serial).
+      ⊎_elim (λ (p : IsEntryAt h other session serial). ok.once at other session serial o p)
       (λ (u : (other ≡ length h) × IsOf e session serial). absurd (apart at session serial o u.1))
       (entry_pushed h e other session serial also))
       (λ (t : (at ≡ length h) × IsOf e session serial).
-      ⊎_elim (λ (p : IsEntryOf h other session serial). absurd (apart other session serial p t.1))
+      ⊎_elim (λ (p : IsEntryAt h other session serial). absurd (apart other session serial p t.1))
       (λ (u : (other ≡ length h) × IsOf e session serial). t.0 ∙ sym u.0)
       (entry_pushed h e other session serial also))
       (entry_pushed h e at session serial of)
@@ -214,14 +214,14 @@ module _ (claims : Bool) (s : UnitState) where
   Lasts notes i a at is_flushed = (is_flushed ≡ true) × IsFlushedBehind notes i a at
 
   abbrev pub WhatOk : List Entry → List Note → ℕ → Note → What → Type 0
-  WhatOk h notes i a Submitted = (at : ℕ) → IsEntryOf h at a.session a.serial → a.count ≤ at
+  WhatOk h notes i a Submitted = (at : ℕ) → IsEntryAt h at a.session a.serial → a.count ≤ at
   WhatOk h notes i a FlushBegan = Unit {0}
   WhatOk h notes i a (HasReply job reply at) =
       (at < a.count) × HasEntry claims s h a.session a.serial job.by_group job.asked job.bytes reply at × (job.late ≡ None)
   WhatOk h notes i a (Settled job told at is_flushed) =
       (at < a.count) × IsSettledAt claims (Lasts notes i a at is_flushed) s h a.session a.serial job told at
-  WhatOk h notes i a Busy = (at : ℕ) → IsEntryOf h at a.session a.serial → IsSubmittedBehind notes i a at
-  WhatOk h notes i a Gone = (at : ℕ) → IsEntryOf h at a.session a.serial → IsSubmittedBehind notes i a at
+  WhatOk h notes i a Busy = (at : ℕ) → IsEntryAt h at a.session a.serial → IsSubmittedBehind notes i a at
+  WhatOk h notes i a Gone = (at : ℕ) → IsEntryAt h at a.session a.serial → IsSubmittedBehind notes i a at
 
   pub record Sound (place : ℕ) (h : List Entry) (sessions : List Session) (notes : List Note) : Type 0 where
     pub unit : UnitOk h
@@ -509,10 +509,10 @@ module _ (claims : Bool) (s : UnitState) where
 
   module _ (place : ℕ) (h : List Entry) (e : Entry) (notes : List Note) (submits : HasSubmits place h e notes) where
     ended_more : (i : ℕ) (a : Note) → IsNoted notes i a → IsNone a.what → a.place ≡ place
-        → ((at : ℕ) → IsEntryOf h at a.session a.serial → IsSubmittedBehind notes i a at)
-        → (at : ℕ) → IsEntryOf (h ++ e ∷ []) at a.session a.serial → IsSubmittedBehind notes i a at
+        → ((at : ℕ) → IsEntryAt h at a.session a.serial → IsSubmittedBehind notes i a at)
+        → (at : ℕ) → IsEntryAt (h ++ e ∷ []) at a.session a.serial → IsSubmittedBehind notes i a at
     ended_more i a is none unit ok at of =
-        ⊎_elim (λ (o : IsEntryOf h at a.session a.serial). ok at o)
+        ⊎_elim (λ (o : IsEntryAt h at a.session a.serial). ok at o)
         (λ (t : (at ≡ length h) × IsOf e a.session a.serial).
         subst (λ (k : ℕ). IsSubmittedBehind notes i a k) (sym t.0) (submits i a is none unit t.1))
         (entry_pushed h e at a.session a.serial of)
@@ -520,7 +520,7 @@ module _ (claims : Bool) (s : UnitState) where
     pub what_later : (i : ℕ) (a : Note) (what : What) → a.what ≡ what → IsNoted notes i a → a.place ≡ place
         → a.count ≤ length h → WhatOk h notes i a what → WhatOk (h ++ e ∷ []) notes i a what
     what_later i a Submitted same is unit le ok = λ at of.
-        ⊎_elim (λ (o : IsEntryOf h at a.session a.serial). ok at o)
+        ⊎_elim (λ (o : IsEntryAt h at a.session a.serial). ok at o)
         (λ (t : (at ≡ length h) × IsOf e a.session a.serial). let m = t.0 in omega arith)
         (entry_pushed h e at a.session a.serial of)
     what_later i a FlushBegan same is unit le ok = ok

@@ -15,7 +15,7 @@ use Rattle.unit_entries.specs.Histories.{IsToldBehind, command}
 use Rattle.scsi_types.specs.declared.command.Command.{Command as ScsiCommand}
 use Rattle.scsi_types.specs.declared.command.CdbFault.{CdbFault}
 use Rattle.late_flushes.specs.Flushes.{IsUnflushed}
-use Rattle.world.specs.Orders.{IsEntryOf, IsNone, IsNoted}
+use Rattle.world.specs.Orders.{IsEntryAt, IsNone, IsNoted}
 use Rattle.world.specs.Traffic.{Traffic, IsAgain, IsHanded, IsTakenBack, at_stage, attached, begun, closed}
 use Rattle.world.specs.Traffic.{ended_in, free, given, given_up, handed_in, in_hand, in_lane}
 use Rattle.world.specs.Traffic.{is_closed, is_idle, note_of, noted, posted, put_off, returned_in}
@@ -63,7 +63,7 @@ module _ (claims : Bool) (s : UnitState) (place : ℕ) (h : List Entry) where
   sound_closed t Two sound = sound
 
   -- no entry has the serial of a session whose command was not served
-  unserved_none : (t : Traffic) (x : Session) (at : ℕ) → IsSound t → IsUnserved h x → IsEntryOf h at x.id x.next → ⊥
+  unserved_none : (t : Traffic) (x : Session) (at : ℕ) → IsSound t → IsUnserved h x → IsEntryAt h at x.id x.next → ⊥
   unserved_none t x at sound unserved of =
       let le = sound.unit.below at x.id x.next of in absurd (omega arith)
 

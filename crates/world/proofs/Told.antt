@@ -13,7 +13,7 @@ use Rattle.scsi_types.specs.declared.command.Command.{Command as ScsiCommand}
 use Rattle.scsi_types.specs.declared.command.CdbFault.{CdbFault}
 use Rattle.scsi_types.specs.declared.status.Status.{Status}
 use Rattle.scsi_types.specs.declared.status.Status.TheVariants as statuses
-use Rattle.late_flushes.specs.Flushes.{IsTold, IsUnflushed}
+use Rattle.late_flushes.specs.Flushes.{IsToldBehindFlush, IsUnflushed}
 use Rattle.world.specs.Orders.{IsNone}
 use Rattle.world.specs.Traffic.{Traffic, answered_in, as_asked, at_stage}
 use Rattle.world.specs.Traffic.{collected, flush_ended, flush_in, free, given, given_up, heard}
@@ -75,7 +75,7 @@ module _ (claims : Bool) (s : UnitState) (place : ℕ) (h : List Entry) where
     sound_settled : (count : ℕ) (job : Job) (reply told : ReplyValue) (k next : ℕ) (is_flushed : Bool) → IsLegal claims s h
         → (x.place ≡ place → count ≡ length h)
         → (x.place ≡ place → (served : Result ScsiCommand CdbFault) × HasServedSo job served reply k next)
-        → (x.place ≡ place → IsTold (Lasts claims s (t.notes ++ note_of count x (Settled job told k is_flushed) ∷ []) (length t.notes)
+        → (x.place ≡ place → IsToldBehindFlush (Lasts claims s (t.notes ++ note_of count x (Settled job told k is_flushed) ∷ []) (length t.notes)
         (note_of count x (Settled job told k is_flushed)) k is_flushed) reply told)
         → IsSound (settled count t n x job told k next is_flushed)
     sound_settled count job reply told k next is_flushed legal is ok ended =
@@ -187,7 +187,7 @@ module _ (claims : Bool) (s : UnitState) (place : ℕ) (h : List Entry) where
     -- the flush behind its command ends
     ended_so : (count : ℕ) (flush : Flush) (is_done : Bool) → count ≡ length h
         → FlushOk claims s h t.notes x.place x.id x.next flush
-        → IsTold (Lasts claims s
+        → IsToldBehindFlush (Lasts claims s
         (t.notes ++ note_of count x (Settled flush.job (told_behind is_done flush.reply) flush.place is_done) ∷ []) (length t.notes)
         (note_of count x (Settled flush.job (told_behind is_done flush.reply) flush.place is_done)) flush.place is_done) flush.reply
         (told_behind is_done flush.reply)

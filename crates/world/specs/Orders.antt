@@ -17,8 +17,8 @@ use Rattle.world.specs.declared.note.What.TheVariants.{Submitted, FlushBegan, Re
 use Rattle.unit_events.specs.declared.job.Job.{Job}
 
 -- the entry at a place is a command of this session with this serial
-abbrev pub IsEntryOf : List Entry → ℕ → ℕ → ℕ → Type 0
-IsEntryOf history at session serial =
+abbrev pub IsEntryAt : List Entry → ℕ → ℕ → ℕ → Type 0
+IsEntryAt history at session serial =
     (e : Entry) × (slice_get history at ≡ Some e)
     × ((group : Group) × (asked : _) × (bytes : List ℕ) × IsCommand session serial group asked bytes e)
 
@@ -88,12 +88,12 @@ pub record IsOrderly (claims : Bool) (opening : ℕ → UnitState) (w : Scene) :
       → IsSettledAt claims ((is_flushed ≡ true) × IsFlushedBehind w.traffic.notes i a at) (opening a.place) (w.past a.place)
       a.session a.serial job told at
   -- a session's serial is that of one entry at most;
-  pub once : (place session serial at other : ℕ) → IsEntryOf (w.past place) at session serial
-      → IsEntryOf (w.past place) other session serial → at ≡ other
+  pub once : (place session serial at other : ℕ) → IsEntryAt (w.past place) at session serial
+      → IsEntryAt (w.past place) other session serial → at ≡ other
   -- a command that ended without a reply has none: an entry with its serial is of a command submitted behind that end;
   pub none : (i at : ℕ) (a : Note) → IsNoted w.traffic.notes i a → IsNone a.what
-      → IsEntryOf (w.past a.place) at a.session a.serial → IsSubmittedBehind w.traffic.notes i a at
+      → IsEntryAt (w.past a.place) at a.session a.serial → IsSubmittedBehind w.traffic.notes i a at
   -- and the entry of a command that a session submitted behind a reply stands behind that of the reply.
   pub later : (i j at place : ℕ) (a b : Note) → i < j → IsNoted w.traffic.notes i a → IsToldAt a.what at
       → IsNoted w.traffic.notes j b → b.what ≡ Submitted → AreOfOne a b
-      → IsEntryOf (w.past b.place) place b.session b.serial → at < place
+      → IsEntryAt (w.past b.place) place b.session b.serial → at < place

@@ -6,7 +6,7 @@ use crate::controllers::any_array::{Array, End};
 use crate::controllers::script::{Asks, command_of};
 use crate::controllers::tales::{Tale, happens};
 use array_units::Units;
-use block_file::{Blocks, MemBlocks, Opener, Room};
+use block_file::{Blocks, MemBlocks, Opener, ReplyMemory};
 use failover::{Mover, set_groups, take_down};
 use forwarding::{Desk, DeskFault, Ticket};
 use scsi_types::{Command, Group, PortName, Reply, Status};
@@ -114,7 +114,14 @@ impl<W: Wait + Drop, B: Blocks, O: Opener<B>, N: Naming<Opened>> Array<Host<B, O
         if pass.place() >= units.count() {
             return End::Nobody;
         }
-        let (pass, end) = units.serve(rt, pass, Room::new(*alloc), &by_group, &Ok(command), bytes);
+        let (pass, end) = units.serve(
+            rt,
+            pass,
+            ReplyMemory::new(*alloc),
+            &by_group,
+            &Ok(command),
+            bytes,
+        );
         host.keep(pass, end)
     }
 
@@ -132,7 +139,14 @@ impl<W: Wait + Drop, B: Blocks, O: Opener<B>, N: Naming<Opened>> Array<Host<B, O
         if pass.place() >= units.count() {
             return End::Nobody;
         }
-        let (pass, end) = desk.serve(rt, Room::new(*alloc), units, pass, &Ok(command), bytes);
+        let (pass, end) = desk.serve(
+            rt,
+            ReplyMemory::new(*alloc),
+            units,
+            pass,
+            &Ok(command),
+            bytes,
+        );
         match end {
             Ok(end) => host.keep(pass, end),
             Err(fault) => {
@@ -184,7 +198,7 @@ impl<W: Wait + Drop, B: Blocks, O: Opener<B>, N: Naming<Opened>> Array<Host<B, O
         if ticket.place() >= units.count() {
             return End::Nobody;
         }
-        let (pass, end) = desk.serve_own(rt, Room::new(*alloc), units, ticket);
+        let (pass, end) = desk.serve_own(rt, ReplyMemory::new(*alloc), units, ticket);
         host.keep(pass, end)
     }
 

@@ -4,7 +4,7 @@ ghost use Rattle.portal.specs.Disks.{no_file};
 
 use crate::ends::must;
 use crate::portals::prepared::Nameless;
-use block_file::{Blocks, Room};
+use block_file::{Blocks, ReplyMemory};
 use disk_files::{FileBlocks, FilePreparer};
 use disk_preparer::{BlockMemory, Preparer};
 use portal::{Gate, Prepared};
@@ -136,9 +136,9 @@ fn given<B: Blocks>(device: &mut B, memory: BlockMemory) -> Option<u8> {
 }
 
 // Memory for one block.
-fn room(alloc: Global) -> Option<Room> {
+fn room(alloc: Global) -> Option<ReplyMemory> {
     let bytes = vec![in alloc; 0xDD; 512].ok()?;
-    Some(Room::with(alloc, BlockMemory::fresh(bytes)))
+    Some(ReplyMemory::with(alloc, BlockMemory::fresh(bytes)))
 }
 
 // What the device gives where a READ passes the gate so.

@@ -3,7 +3,7 @@ ghost use Rattle.std.specs.Prelude.{[], true};
 ghost use Rattle.portal.specs.Disks.{no_file};
 
 use crate::ends::must;
-use block_file::Room;
+use block_file::ReplyMemory;
 use disk_preparer::{BlockMemory, Preparer};
 use portal::{Disks, Gate, Pass, Prepared};
 use scsi_types::{Asked, Command};
@@ -162,7 +162,7 @@ fn what_is_wanted_of_a_read_is_asked_once(rt: HostRuntime) -> Result<(), Fail> {
         fua: false,
     });
     gate.fetch(0, 7, &read);
-    let _room = gate.read(0, 7, &read, Room::new(rt.alloc()));
+    let _room = gate.read(0, 7, &read, ReplyMemory::new(rt.alloc()));
     let disk = seen.first().expect(&rt, "a disk");
     let wanted = disk.wanted.load(Ordering::Relaxed);
     must(&rt, wanted == 1, "asked", &wanted);

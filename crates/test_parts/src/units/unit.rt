@@ -1,7 +1,7 @@
 //! A unit as a script sees it, and how one is opened.
 use crate::units::ended::{Ended, moved, numbered, stepped, worded};
 use aptpl_file::RegFile;
-use block_file::{Blocks, Opener, Room};
+use block_file::{Blocks, Opener, ReplyMemory};
 use scsi_types::{Asked, Group, Place, PortName};
 use std::alloc::Global;
 use std::process::Abort;
@@ -60,7 +60,15 @@ impl<B: Blocks, F: Blocks, O: Opener<B>> AnyUnit for Unit<B, F, O> {
         bytes: &[u8],
     ) -> Ended {
         let (session, serial, by) = sender;
-        let end = Unit::step(self, Room::new(alloc), session, serial, by, asked, bytes);
+        let end = Unit::step(
+            self,
+            ReplyMemory::new(alloc),
+            session,
+            serial,
+            by,
+            asked,
+            bytes,
+        );
         stepped(rt, alloc, &end)
     }
 

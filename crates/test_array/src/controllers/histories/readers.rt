@@ -4,7 +4,7 @@ ghost use Rattle.unit_history.specs.Naming.{IsNamedAt};
 
 use crate::controllers::any_array::want;
 use crate::memory::{Opens, new_unit};
-use block_file::{Blocks, FusedOpener, KeepOpener, MemBlocks, Opener, Room};
+use block_file::{Blocks, FusedOpener, KeepOpener, MemBlocks, Opener, ReplyMemory};
 use scsi_types::{Command, Group, PortName};
 use status::MOST_SEATS;
 use std::alloc::Global;
@@ -77,7 +77,7 @@ impl<W: Wait + Drop, B: Blocks, F: Blocks, O: Opener<B>, N: Naming<Opened>> Shar
         let (pass, end) = self.unit.serve(
             &self.rt,
             pass,
-            Room::new(self.alloc),
+            ReplyMemory::new(self.alloc),
             &Group::One,
             &asked,
             &[],

@@ -29,7 +29,7 @@ use Rattle.logbook.specs.contracts.tokens.Seen as Seen
 use Rattle.logbook.specs.contracts.tokens.Gained as Gained
 use Rattle.logbook.specs.contracts.tokens.Offer as Offer
 use Rattle.logbook.proofs.Fields.{token, Token, token_told, token_made, ends}
-use Rattle.unit_sequence.specs.Rights.{first_of, right_owns, counts, count_after, gained, Adds}
+use Rattle.unit_sequence.specs.Rights.{first_of, right_owns, counts, count_after, gained, AddsEntry}
 use Rattle.unit_sequence.specs.contracts.right.Answer as Answer
 use Rattle.unit_sequence.specs.contracts.right.Counted as Counted
 use Rattle.unit_sequence.specs.contracts.right.Law as Law

@@ -6,20 +6,20 @@ use std::alloc::{AllocError, Global};
 
 /// Memory for the data of a reply: some that was made ready for it, and where more comes from.
 #[derive(Drop)]
-pub struct Room {
+pub struct ReplyMemory {
     alloc: Global,
     ready: Option<BlockMemory>,
 }
 
-impl Room {
-    /// Room of which no memory is ready.
-    pub fn new(alloc: Global) -> Room {
-        Room { alloc, ready: None }
+impl ReplyMemory {
+    /// None is ready.
+    pub fn new(alloc: Global) -> ReplyMemory {
+        ReplyMemory { alloc, ready: None }
     }
 
-    /// Room of which this memory is ready.
-    pub fn with(alloc: Global, ready: BlockMemory) -> Room {
-        Room {
+    /// This memory is ready.
+    pub fn with(alloc: Global, ready: BlockMemory) -> ReplyMemory {
+        ReplyMemory {
             alloc,
             ready: Some(ready),
         }
