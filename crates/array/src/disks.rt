@@ -1,5 +1,5 @@
 //! The units of the array, over files.
-ghost use Rattle.std.specs.Prelude.{◌≡◌, ◌≤◌, IfOk, length, map};
+ghost use Rattle.std.specs.Prelude.{◌≡◌, ◌<◌, ◌≤◌, IfOk, length, map};
 ghost use Rattle.unit_state.specs.Serials.{IsOpening};
 
 use aptpl_file::OpenFault;
@@ -42,70 +42,40 @@ pub type FileArray<R> = OpenArray<
 // ENOENT, as Linux numbers it.
 const NO_ENTRY: u32 = 2;
 
-// Why a file is no device of blocks, as the log names it.
-fn file_unusable(fault: FileFault) -> Unusable {
+// Why a file is no device of blocks, as the log names it, and the error of the system, 0 where it told none.
+fn file_cause(fault: FileFault) -> (Unusable, u32) {
     match fault {
-        FileFault::NotThere => Unusable::NotThere,
-        FileFault::NotOpened(_) => Unusable::NotOpened,
-        FileFault::Length => Unusable::Length,
-        FileFault::Empty => Unusable::Empty,
-        FileFault::TooLong => Unusable::TooLong,
+        FileFault::NotThere => (Unusable::NotThere, NO_ENTRY),
+        FileFault::NotOpened(error) => (Unusable::NotOpened, error),
+        FileFault::Length => (Unusable::Length, 0),
+        FileFault::Empty => (Unusable::Empty, 0),
+        FileFault::TooLong => (Unusable::TooLong, 0),
     }
 }
 
 // The same of a disk.
-fn disk_unusable(fault: DiskFault) -> Unusable {
+fn disk_cause(fault: DiskFault) -> (Unusable, u32) {
     match fault {
-        DiskFault::File(fault) => file_unusable(fault),
-        DiskFault::InUse => Unusable::InUse,
-        DiskFault::NotLocked(_) => Unusable::NotLocked,
-        DiskFault::NoMemory => Unusable::NoMemory,
+        DiskFault::File(fault) => file_cause(fault),
+        DiskFault::InUse => (Unusable::InUse, 0),
+        DiskFault::NotLocked(error) => (Unusable::NotLocked, error),
+        DiskFault::NoMemory => (Unusable::NoMemory, 0),
     }
 }
 
 // The same of a registration file.
-fn registrations_unusable(fault: RegistrationsFault) -> Unusable {
+fn registrations_cause(fault: RegistrationsFault) -> (Unusable, u32) {
     match fault {
-        RegistrationsFault::File(fault) => file_unusable(fault),
-        RegistrationsFault::NotMade(_) => Unusable::NotMade,
-        RegistrationsFault::InUse => Unusable::InUse,
-        RegistrationsFault::NotLocked(_) => Unusable::NotLocked,
-        RegistrationsFault::Held(OpenFault::NotARegFile) => Unusable::NotARegistrationFile,
-        RegistrationsFault::Held(OpenFault::Version) => Unusable::Version,
-        RegistrationsFault::Held(OpenFault::DeviceFailed) => Unusable::Failed,
-        RegistrationsFault::Held(OpenFault::NoMemory) => Unusable::NoMemory,
-        RegistrationsFault::Forgotten => Unusable::Forgotten,
-        RegistrationsFault::NoMemory => Unusable::NoMemory,
-    }
-}
-
-// The error of the system, 0 where it told none.
-fn file_error(fault: FileFault) -> u32 {
-    match fault {
-        FileFault::NotThere => NO_ENTRY,
-        FileFault::NotOpened(error) => error,
-        FileFault::Length | FileFault::Empty | FileFault::TooLong => 0,
-    }
-}
-
-// The same of a disk.
-fn disk_error(fault: DiskFault) -> u32 {
-    match fault {
-        DiskFault::File(fault) => file_error(fault),
-        DiskFault::NotLocked(error) => error,
-        DiskFault::InUse | DiskFault::NoMemory => 0,
-    }
-}
-
-// The same of a registration file.
-fn registrations_error(fault: RegistrationsFault) -> u32 {
-    match fault {
-        RegistrationsFault::File(fault) => file_error(fault),
-        RegistrationsFault::NotMade(error) | RegistrationsFault::NotLocked(error) => error,
-        RegistrationsFault::Held(_)
-        | RegistrationsFault::InUse
-        | RegistrationsFault::Forgotten
-        | RegistrationsFault::NoMemory => 0,
+        RegistrationsFault::File(fault) => file_cause(fault),
+        RegistrationsFault::NotMade(error) => (Unusable::NotMade, error),
+        RegistrationsFault::InUse => (Unusable::InUse, 0),
+        RegistrationsFault::NotLocked(error) => (Unusable::NotLocked, error),
+        RegistrationsFault::Held(OpenFault::NotARegFile) => (Unusable::NotARegistrationFile, 0),
+        RegistrationsFault::Held(OpenFault::Version) => (Unusable::Version, 0),
+        RegistrationsFault::Held(OpenFault::DeviceFailed) => (Unusable::Failed, 0),
+        RegistrationsFault::Held(OpenFault::NoMemory) => (Unusable::NoMemory, 0),
+        RegistrationsFault::Forgotten => (Unusable::Forgotten, 0),
+        RegistrationsFault::NoMemory => (Unusable::NoMemory, 0),
     }
 }
 
@@ -116,6 +86,13 @@ pub(crate) fn fault_of(unit: u8, part: Part, why: Unusable) -> Fault {
         (_, Part::Disk) => Fault::CannotUseUnit(unit),
         (_, Part::Registrations) => Fault::CannotUseRegistrationFile(unit),
     }
+}
+
+// Tells the log why a file of a unit cannot be used.
+fn refuse(log: &Log, unit: u8, part: Part, path: &str, cause: (Unusable, u32)) -> Fault {
+    let (why, error) = cause;
+    log.note(&Event::CannotUse(unit, part, path.as_bytes(), why, error));
+    fault_of(unit, part, why)
 }
 
 // What tells of calls that fail on a file of a unit.
@@ -140,12 +117,7 @@ pub(crate) fn open_blocks<R: Files<File = File> + Clone + Drop>(
             }
             Ok(disk)
         }
-        Err(fault) => {
-            let why = disk_unusable(fault);
-            let error = disk_error(fault);
-            log.note(&Event::CannotUse(unit, Part::Disk, path.as_bytes(), why, error));
-            Err(fault_of(unit, Part::Disk, why))
-        }
+        Err(fault) => Err(refuse(log, unit, Part::Disk, path, disk_cause(fault))),
     }
 }
 
@@ -179,12 +151,23 @@ pub(crate) fn open_record<R: Files<File = File> + Clone + Drop>(
     match open_registrations(mine, alloc, path, Some(file_log)) {
         Ok(found) => Ok(found),
         Err(fault) => {
-            let why = registrations_unusable(fault);
-            let error = registrations_error(fault);
-            log.note(&Event::CannotUse(unit, Part::Registrations, path.as_bytes(), why, error));
-            Err(fault_of(unit, Part::Registrations, why))
+            let cause = registrations_cause(fault);
+            Err(refuse(log, unit, Part::Registrations, path, cause))
         }
     }
+}
+
+// Where a unit stands in the array that the words ask for, and the path of its disk.
+pub(crate) fn place_of<'a>(options: &Options<'a>, unit: u8) -> (Place, &'a str)
+    requires few { length options.now.paths.items ≤ MAX_UNITS }
+    requires there { unit < length options.now.paths.items }
+{
+    let place = Place {
+        unit,
+        units: options.paths.len() as u8,
+        array: options.array,
+    };
+    (place, options.paths[usize::from(unit)])
 }
 
 // Opens the unit at this place over the file of this name, and locks it.
@@ -229,14 +212,8 @@ pub fn open<R: Files<File = File> + Clock + Wait + Clone + Drop>(
     let mut units = Vec::new(alloc);
     let mut locks = Vec::new(alloc);
     let mut preparers = Vec::new(alloc);
-    let count = options.paths.len() as u8;
-    for unit in 0..count {
-        let place = Place {
-            unit,
-            units: count,
-            array: options.array,
-        };
-        let path = options.paths[usize::from(unit)];
+    for unit in 0..options.paths.len() as u8 {
+        let (place, path) = place_of(options, unit);
         let (opened, both, preparer) = open_unit(rt, alloc, log, place, path)?;
         units.push(NewUnit::new(alloc, opened)?)?;
         locks.push(both)?;

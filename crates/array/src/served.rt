@@ -1,6 +1,6 @@
 //! The array as it is served.
 
-ghost use Rattle.std.specs.Prelude.{◌≤◌, length, IfOk};
+ghost use Rattle.std.specs.Prelude.{◌≤◌, length};
 ghost use Rattle.portal.specs.Disks.{AreOver};
 ghost use Rattle.portal.specs.Lanes.{AreLanesOf};
 ghost use Rattle.scsi_types.specs.declared.names.Group.TheVariants.{One, Two};
@@ -34,9 +34,6 @@ use std::time::Clock;
 use unit_history::{LegalHistory, NewUnit, Opened, Pass};
 use unit_sequence::Array as Naming;
 
-/// What the portals serve.
-pub(crate) type Served<B, F, O, N, G> = Arc<Server<Controllers<B, F, O, N>, G>, Global>;
-
 // By what hosts find the array: the target's name, and where each controller's portals listen; and the log that is told.
 #[derive(Drop)]
 struct Found {
@@ -46,108 +43,152 @@ struct Found {
     log: Log,
 }
 
-// The same, as the words ask for it, with a log of its own.
-fn found_by(alloc: Global, options: &Options<'_>, ports: Ports, log: &Log) -> Result<Found, Fault> {
-    let target_name = Vec::from_slice(alloc, options.target.as_bytes())?;
-    let first = ports.of(Group::One).addresses(alloc)?;
-    let second = ports.of(Group::Two).addresses(alloc)?;
-    Ok(Found {
-        target_name,
-        first,
-        second,
-        log: log.share()?,
-    })
-}
-
-// These units behind this gate, as hosts find them.
-fn server_of<N: Naming<Opened>, B: Blocks, F: Blocks, O: Opener<B>, G: Gate + Drop, R: Wait>(
+// The portals that the words ask for, which listen, and what hosts find there.
+fn open_portals<R: Net<Listener = TcpListener, Stream = TcpStream> + Clock>(
     rt: &R,
     alloc: Global,
-    found: Found,
-    units: Vec<NewUnit<B, F, O>>,
-    gate: G,
-) -> Result<Served<B, F, O, N, G>, Fault>
-    requires named { IsNamed N.book N.table N.opening B.contents units.items }
-    requires count { length units.items ≤ MAX_UNITS }
-{
-    let units = Units::<B, F, O, N>::new(rt, alloc, units)?;
-    let controllers = Controllers::new(alloc, units)?;
-    let Found {
-        target_name,
-        first,
-        second,
-        log,
-    } = found;
-    let server = Server {
-        device: TargetDevice::new(alloc, controllers, gate),
-        target_name,
-        first,
-        second,
-        log,
+    options: &Options<'_>,
+    log: &Log,
+) -> Result<(Vec<Portal>, Found), Fault> {
+    let ports = Ports {
+        host: options.host,
+        second_host: options.second_host.unwrap_or(options.host),
+        first: options.port,
+        count: options.portals,
     };
-    match Arc::new(alloc, server) {
-        Ok(server) => Ok(server),
-        Err(_) => Err(Fault::NoMemory),
-    }
+    let portals = portals::open(rt, alloc, ports, log)?;
+    let found = Found {
+        target_name: Vec::from_slice(alloc, options.target.as_bytes())?,
+        first: ports.of(Group::One).addresses(alloc)?,
+        second: ports.of(Group::Two).addresses(alloc)?,
+        log: log.share()?,
+    };
+    Ok((portals, found))
 }
 
 // The lanes of both controllers' desks.
 type Lanes = ([Lane; 4], [Lane; 4]);
 
-// Starts the lanes of one.
-fn start<
-    N: Naming<Opened> + Send + Sync + 'static,
-    B: Blocks + Send + Sync + 'static,
-    F: Blocks + Send + Sync + 'static,
-    O: Opener<B> + Send + Sync + 'static,
-    G: Gate + Drop + Send + Sync + 'static,
-    R: Threads + Wait + Clone + Drop + Send + 'static,
->(rt: &R, alloc: Global, server: &Served<B, F, O, N, G>, group: Group) -> Result<[Lane; 4], Fault>
-    ensures { IfOk result (AreLanesOf group) }
-{
-    let mut stacks = SmallStacks;
-    let lanes = start_lanes::<N, B, F, O, G, R, SmallStacks>(
-        rt,
-        alloc,
-        server,
-        group,
-        &mut stacks,
-    )?;
-    Ok(lanes)
+// An array that is served, which its threads share.
+#[derive(Drop)]
+struct Served<'a, N: Naming<Opened>, B: Blocks, F: Blocks, O: Opener<B>, G: Drop, R> {
+    rt: &'a R,
+    alloc: Global,
+    server: Arc<Server<Controllers<B, F, O, N>, G>, Global>,
 }
 
-// Starts the accept loop of each portal, once both controllers have their lanes.
-fn accept_at<
+impl<
+    'a,
     N: Naming<Opened> + Send + Sync + 'static,
     B: Blocks + Send + Sync + 'static,
     F: Blocks + Send + Sync + 'static,
     O: Opener<B> + Send + Sync + 'static,
     G: Gate + Drop + Send + Sync + 'static,
-    R: Threads + Wait + Clock + Clone + Drop + Send + 'static,
->(
-    rt: &R,
-    alloc: Global,
-    server: &Served<B, F, O, N, G>,
-    portals: Vec<Portal>,
-    _lanes: &Lanes,
-) -> Result<(), Fault>
-    requires first { AreLanesOf One _lanes.now.0 }
-    requires second { AreLanesOf Two _lanes.now.1 }
-{
-    for Portal { listener, group } in portals {
-        let loops = listen::<
-            R,
-            Controllers<B, F, O, N>,
-            G,
-            Pass<B, F, O, N>,
-            LegalHistory<B, F, O, N>,
-            SmallStacks,
-        >(rt, alloc, listener, server, group, SmallStacks);
-        if loops.is_err() {
-            return Err(Fault::NoMemory);
+    R: Threads + Wait + Clock + RandomSource + Clone + Drop + Send + Sync + 'static,
+> Served<'a, N, B, F, O, G, R> {
+    // These units behind this gate, as hosts find them.
+    fn new(
+        rt: &'a R,
+        alloc: Global,
+        found: Found,
+        units: Vec<NewUnit<B, F, O>>,
+        gate: G,
+    ) -> Result<Served<'a, N, B, F, O, G, R>, Fault>
+        requires named { IsNamed N.book N.table N.opening B.contents units.items }
+        requires count { length units.items ≤ MAX_UNITS }
+    {
+        let units = Units::<B, F, O, N>::new(rt, alloc, units)?;
+        let controllers = Controllers::new(alloc, units)?;
+        let Found {
+            target_name,
+            first,
+            second,
+            log,
+        } = found;
+        let server = Server {
+            device: TargetDevice::new(alloc, controllers, gate),
+            target_name,
+            first,
+            second,
+            log,
+        };
+        match Arc::new(alloc, server) {
+            Ok(server) => Ok(Served { rt, alloc, server }),
+            Err(_) => Err(Fault::NoMemory),
         }
     }
-    Ok(())
+
+    // Starts the accept loop of each portal, once both controllers have their lanes.
+    fn accept_at(&self, portals: Vec<Portal>, _lanes: &Lanes) -> Result<(), Fault>
+        requires first { AreLanesOf One _lanes.now.0 }
+        requires second { AreLanesOf Two _lanes.now.1 }
+    {
+        for Portal { listener, group } in portals {
+            let loops = listen::<
+                R,
+                Controllers<B, F, O, N>,
+                G,
+                Pass<B, F, O, N>,
+                LegalHistory<B, F, O, N>,
+                SmallStacks,
+            >(
+                self.rt,
+                self.alloc,
+                listener,
+                &self.server,
+                group,
+                SmallStacks,
+            );
+            if loops.is_err() {
+                return Err(Fault::NoMemory);
+            }
+        }
+        Ok(())
+    }
+
+    // Starts all its threads.
+    fn start(
+        &self,
+        options: &Options<'_>,
+        portals: Vec<Portal>,
+        sockets: Sockets,
+    ) -> Result<(), Fault> {
+        let (rt, alloc) = (self.rt, self.alloc);
+        let mut stacks = SmallStacks;
+        let first = start_lanes(rt, alloc, &self.server, Group::One, &mut stacks)?;
+        let second = start_lanes(rt, alloc, &self.server, Group::Two, &mut stacks)?;
+        answer(rt, alloc, options, &self.server, sockets)?;
+        self.accept_at(portals, &(first, second))
+    }
+
+    // Serves these units, behind this gate, at these portals, until the console ends.
+    fn run<I: BufRead + Drop, C: Write>(
+        rt: &'a R,
+        alloc: Global,
+        options: &Options<'_>,
+        portals: Vec<Portal>,
+        found: Found,
+        units: Vec<NewUnit<B, F, O>>,
+        gate: G,
+        sockets: Sockets,
+        reader: I,
+        writer: &mut C,
+    ) -> Result<(), Fault>
+        requires named { IsNamed N.book N.table N.opening B.contents units.items }
+        requires count { length units.items ≤ MAX_UNITS }
+    {
+        let served = Served::<N, B, F, O, G, R>::new(rt, alloc, found, units, gate)?;
+        served.start(options, portals, sockets)?;
+        let server = &served.server;
+        server.log.tell(rt, &Event::Ready);
+        let mut operated = Operated {
+            rt,
+            controllers: &server.device.units,
+            log: &server.log,
+        };
+        attend(alloc, reader, writer, &mut operated);
+        Ok(())
+    }
 }
 
 // Says that all portals listen, and obeys the console until it ends. An output that fails counts as the end of the input.
@@ -165,107 +206,10 @@ fn attend<A: Operations, I: BufRead + Drop, C: Write>(
     console(alloc, reader, writer, array);
 }
 
-// Serves these units, behind this gate, at the portals that the words ask for.
-fn serve_units<
-    N: Naming<Opened> + Send + Sync + 'static,
-    B: Blocks + Send + Sync + 'static,
-    F: Blocks + Send + Sync + 'static,
-    O: Opener<B> + Send + Sync + 'static,
-    G: Gate + Drop + Send + Sync + 'static,
-    R: Threads
-        + Wait
-        + Clock
-        + Net<Listener = TcpListener, Stream = TcpStream>
-        + RandomSource
-        + Clone
-        + Drop
-        + Send
-        + Sync
-        + 'static,
->(
-    rt: &R,
-    alloc: Global,
-    options: &Options<'_>,
-    units: Vec<NewUnit<B, F, O>>,
-    gate: G,
-    log: &Log,
-    sockets: Sockets,
-) -> Result<Served<B, F, O, N, G>, Fault>
-    requires named { IsNamed N.book N.table N.opening B.contents units.items }
-    requires count { length units.items ≤ MAX_UNITS }
-{
-    let ports = Ports {
-        host: options.host,
-        second_host: options.second_host.unwrap_or(options.host),
-        first: options.port,
-        count: options.portals,
-    };
-    let portals = portals::open(rt, alloc, ports, log)?;
-    let found = found_by(alloc, options, ports, log)?;
-    let server = server_of::<N, B, F, O, G, R>(rt, alloc, found, units, gate)?;
-    let first = start::<N, B, F, O, G, R>(rt, alloc, &server, Group::One)?;
-    let second = start::<N, B, F, O, G, R>(rt, alloc, &server, Group::Two)?;
-    let lanes = (first, second);
-    answer::<R, Server<Controllers<B, F, O, N>, G>>(rt, alloc, options, &server, sockets)?;
-    accept_at::<N, B, F, O, G, R>(rt, alloc, &server, portals, &lanes)?;
-    Ok(server)
-}
-
 /// Tells the log of an array that ends for want of memory, or of a thread.
 pub fn tell_want<R: Clock>(rt: &R, log: &Log, fault: Fault) {
     if fault == Fault::NoMemory {
         log.tell(rt, &Event::Wanting(Resource::Memory));
-    }
-}
-
-// Serves these units until the console ends. Why they could not be served is told.
-fn serve_to_the_end<
-    N: Naming<Opened> + Send + Sync + 'static,
-    B: Blocks + Send + Sync + 'static,
-    F: Blocks + Send + Sync + 'static,
-    O: Opener<B> + Send + Sync + 'static,
-    G: Gate + Drop + Send + Sync + 'static,
-    R: Threads
-        + Wait
-        + Clock
-        + Net<Listener = TcpListener, Stream = TcpStream>
-        + RandomSource
-        + Clone
-        + Drop
-        + Send
-        + Sync
-        + 'static,
-    I: BufRead + Drop,
-    C: Write,
->(
-    rt: &R,
-    alloc: Global,
-    options: &Options<'_>,
-    units: Vec<NewUnit<B, F, O>>,
-    gate: G,
-    log: &Log,
-    sockets: Sockets,
-    reader: I,
-    writer: &mut C,
-) -> Result<(), Fault>
-    requires named { IsNamed N.book N.table N.opening B.contents units.items }
-    requires count { length units.items ≤ MAX_UNITS }
-{
-    match serve_units::<N, B, F, O, G, R>(rt, alloc, options, units, gate, log, sockets) {
-        Ok(server) => {
-            log.tell(rt, &Event::Ready);
-            let mut operated = Operated {
-                rt,
-                controllers: &server.device.units,
-                log,
-            };
-            attend(alloc, reader, writer, &mut operated);
-            Ok(())
-        }
-        Err(fault) => {
-            tell_want(rt, log, fault);
-            Err(fault)
-        }
     }
 }
 
@@ -315,9 +259,15 @@ pub fn serve<
     let path = control_path(&administration);
     let ended = match open(rt, log, administration) {
         Ok(sockets) => {
-            let ended = serve_to_the_end::<N, B, F, O, Prepared<P, N>, R, I, C>(
-                rt, alloc, options, units, gate, log, sockets, reader, writer,
-            );
+            let ended = match open_portals(rt, alloc, options, log) {
+                Ok((portals, found)) => Served::<N, B, F, O, Prepared<P, N>, R>::run(
+                    rt, alloc, options, portals, found, units, gate, sockets, reader, writer,
+                ),
+                Err(fault) => Err(fault),
+            };
+            if let Err(fault) = &ended {
+                tell_want(rt, log, *fault);
+            }
             control::remove(rt, path);
             ended
         }

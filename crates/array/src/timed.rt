@@ -3,7 +3,7 @@ ghost use Rattle.std.specs.Prelude.{◌≡◌, ◌<◌, ◌≤◌, IfOk, length,
 ghost use Rattle.unit_state.specs.Serials.{IsOpening};
 
 use crate::administration::Administration;
-use crate::disks::{OpenArray, fault_of, open_blocks, open_preparer, open_record};
+use crate::disks::{OpenArray, fault_of, open_blocks, open_preparer, open_record, place_of};
 use crate::served::{serve, tell_want};
 use aptpl_file::RegFile;
 use block_file::{Blocks, KeepOpener, Opener};
@@ -99,14 +99,8 @@ pub fn open_files<R: Files<File = File> + Clock + Wait + Clone + Drop>(
     requires { length options.now.paths.items ≤ MAX_UNITS }
 {
     let mut parts = Vec::new(alloc);
-    let count = options.paths.len() as u8;
-    for unit in 0..count {
-        let place = Place {
-            unit,
-            units: count,
-            array: options.array,
-        };
-        let path = options.paths[usize::from(unit)];
+    for unit in 0..options.paths.len() as u8 {
+        let (place, path) = place_of(options, unit);
         parts.push(open_parts(rt, alloc, log, place, path)?)?;
     }
     Ok(parts)
@@ -147,52 +141,53 @@ fn start_record<
     }
 }
 
-// The unit over these parts, each by threads of its own; and its preparer, and its locks.
-fn start_unit<
-    R: Threads + Wait + Clock + Clone + Drop + Send + Sync + 'static,
+impl<
     B: Blocks + OnDisk + Send + 'static,
     F: Blocks + OnDisk + Send + 'static,
     O: Opener<B> + Send + 'static,
     P: Preparer + Send + Sync + 'static,
->(
-    rt: &R,
-    alloc: Global,
-    log: &Log,
-    parts: Parts<B, F, O, P>,
-    patience: Duration,
-) -> Result<
-    (
-        TimedUnit<R, B, F, O>,
-        DeadlinedPreparer<R, P>,
-        [DiskLock; 2],
-    ),
-    Fault,
->
-    ensures opening { IfOk result (λ r. IsOpening r.0.control) }
-    ensures disk { IfOk result (λ r. r.0.device.node ≡ r.1.node) }
-{
-    let of_disk = watch(alloc, log, parts.place.unit, Part::Disk, patience)?;
-    let of_file = watch(alloc, log, parts.place.unit, Part::Registrations, patience)?;
-    let Parts {
-        place,
-        disk,
-        filed,
-        blocks,
-        opener,
-        preparer,
-        file,
-        locks,
-    } = parts;
-    let Ok(blocks) = Deadlined::start(rt, alloc, blocks, opener, disk, &of_disk) else {
-        return Err(Fault::NoMemory);
-    };
-    let Ok(preparer) = DeadlinedPreparer::start(rt, alloc, preparer, disk, &of_disk) else {
-        return Err(Fault::NoMemory);
-    };
-    let (file, record) = start_record(rt, alloc, place.unit, file, filed, &of_file)?;
-    laws::nobody_is_attached_at_first();
-    let unit = Unit::open(alloc, place, blocks, DeadlinedOpener::new(), file, record)?;
-    Ok((unit, preparer, locks))
+> Parts<B, F, O, P> {
+    // The unit over these parts, each by threads of its own; and its preparer, and its locks.
+    fn start<R: Threads + Wait + Clock + Clone + Drop + Send + Sync + 'static>(
+        self,
+        rt: &R,
+        alloc: Global,
+        log: &Log,
+        patience: Duration,
+    ) -> Result<
+        (
+            TimedUnit<R, B, F, O>,
+            DeadlinedPreparer<R, P>,
+            [DiskLock; 2],
+        ),
+        Fault,
+    >
+        ensures opening { IfOk result (λ r. IsOpening r.0.control) }
+        ensures disk { IfOk result (λ r. r.0.device.node ≡ r.1.node) }
+    {
+        let of_disk = watch(alloc, log, self.place.unit, Part::Disk, patience)?;
+        let of_file = watch(alloc, log, self.place.unit, Part::Registrations, patience)?;
+        let Parts {
+            place,
+            disk,
+            filed,
+            blocks,
+            opener,
+            preparer,
+            file,
+            locks,
+        } = self;
+        let Ok(blocks) = Deadlined::start(rt, alloc, blocks, opener, disk, &of_disk) else {
+            return Err(Fault::NoMemory);
+        };
+        let Ok(preparer) = DeadlinedPreparer::start(rt, alloc, preparer, disk, &of_disk) else {
+            return Err(Fault::NoMemory);
+        };
+        let (file, record) = start_record(rt, alloc, place.unit, file, filed, &of_file)?;
+        laws::nobody_is_attached_at_first();
+        let unit = Unit::open(alloc, place, blocks, DeadlinedOpener::new(), file, record)?;
+        Ok((unit, preparer, locks))
+    }
 }
 
 // The array over these parts, in order.
@@ -217,7 +212,7 @@ fn start_timed<
     let mut locks = Vec::new(alloc);
     let mut preparers = Vec::new(alloc);
     for part in parts {
-        let (unit, preparer, both) = start_unit(rt, alloc, log, part, patience)?;
+        let (unit, preparer, both) = part.start(rt, alloc, log, patience)?;
         units.push(NewUnit::new(alloc, unit)?)?;
         locks.push(both)?;
         preparers.push(preparer)?;

@@ -14,7 +14,6 @@ mod told;
 use administration::Asked;
 use array::{open, open_files, serve, serve_timed, tell_want};
 use command_line::Fault;
-use disk_files::{FileBlocks, FileOpener, FilePreparer, NamedBlocks, SystemFile};
 use event_log::{Event, Log, Page, start};
 use log_file::LogFile;
 use std::alloc::Global;
@@ -167,16 +166,7 @@ fn main(rt: HostRuntime) -> ExitCode {
         Ok(array) => array,
         Err(fault) => return give_up(&rt, &log, fault),
     };
-    let served = serve::<
-        Brand,
-        FileBlocks<SystemFile>,
-        NamedBlocks<HostRuntime>,
-        FileOpener<HostRuntime>,
-        FilePreparer<HostRuntime, SystemFile>,
-        HostRuntime,
-        _,
-        _,
-    >(
+    let served = serve::<Brand, _, _, _, _, HostRuntime, _, _>(
         &rt,
         alloc,
         &options,

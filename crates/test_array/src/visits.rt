@@ -6,7 +6,7 @@ use crate::site::{SIZE, Site, copy};
 use disk_files::{DiskFault, open_disk};
 use std::alloc::Global;
 use std::fs::File;
-use std::io::{self, BufReader, ErrorKind, Read};
+use std::io::{self, ErrorKind, Read};
 use std::net::{Net, SocketAddrV4, TcpListener, TcpStream};
 use std::process::{Abort, Termination};
 use std::rt::Files;
@@ -27,10 +27,7 @@ pub struct Visited<'a> {
     pub left: Option<Site<'a>>,
 }
 
-/// The console of an array that is visited.
-pub type Console<'a, R> = BufReader<Lines<'a, R>>;
-
-/// Its lines: `status`, then one that is none of its own, once the hosts have been there, and `quit`.
+/// The lines of the console of an array that is visited: `status`, then one that is none of its own, once the hosts have been there, and `quit`.
 #[derive(Drop)]
 pub struct Lines<'a, R> {
     rt: &'a R,
@@ -172,27 +169,18 @@ impl<
     }
 }
 
-/// The console of an array that is visited, and those who come, with their sessions open.
-pub fn console<
-    'a,
-    R: Abort
-        + Eprint
-        + Net<Listener = TcpListener, Stream = TcpStream>
-        + Files<File = File>
-        + Clone
-        + Drop,
->(
+/// The lines of its console, and those who come, with their sessions open.
+pub fn lines<'a, R>(
     rt: &'a R,
     alloc: Global,
     visited: &'a Visited<'a>,
     hosts: &'a mut Vec<Host>,
-) -> Result<Console<'a, R>, Fail> {
-    let lines = Lines {
+) -> Lines<'a, R> {
+    Lines {
         rt,
         alloc,
         visited,
         hosts,
         reads: 0,
-    };
-    Ok(BufReader::new(alloc, lines)?)
+    }
 }

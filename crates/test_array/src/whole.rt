@@ -5,17 +5,18 @@ use crate::ends::must;
 use crate::host::Host;
 use crate::hosts::perform;
 use crate::site::{Site, free_site, make};
-use crate::visits::{Console, Visited, console};
+use crate::visits::{Visited, lines};
 use array::{open, serve};
-use disk_files::{FileBlocks, FileOpener, FilePreparer, NamedBlocks, SystemFile};
 use event_log::Log;
 use std::alloc::Global;
 use std::fs::{self, File};
+use std::io::BufReader;
 use std::marker::Brand;
 use std::net::{Net, TcpListener, TcpStream};
 use std::process::{self, Abort};
 use std::rt::Files;
 use std::test::*;
+use test_connections::filled;
 
 // What hosts do before the files are copied. Each login is told the group of its portal.
 fn before() -> &'static str {
@@ -49,19 +50,10 @@ fn before() -> &'static str {
 < GOOD
 
 2 0
-# Power came on; READ (10) of both blocks, each at its unit, and of block 6 of unit 0, where nothing was written.
+# What was written, and READ (10) of block 6 of unit 0, where nothing was.
 > LOGIN 7:56 HOST_B
 < LOGGED_IN 7:36 15:05 WELCOME_2
-> TEST_UNIT_READY
-< CHECK_CONDITION 0012 70000600000000 0A00000000 2900 00000000
-> TEST_UNIT_READY 9:01
-< CHECK_CONDITION 0012 70000600000000 0A00000000 2900 00000000
-> COMMAND 1:C1 20:00000200 32:28000000000500000100
-< DATA_IN 5:000200 pattern 512
-< GOOD 36:00000001
-> COMMAND 1:C1 9:01 20:00000200 32:28000000000600000100
-< DATA_IN 5:000200 pattern 100+512
-< GOOD 36:00000001
+[0]
 > COMMAND 1:C1 20:00000200 32:28000000000600000100
 < DATA_IN 5:000200 512*00
 < GOOD 36:00000001
@@ -72,9 +64,22 @@ fn before() -> &'static str {
 fn after() -> &'static str {
     r#"
 2 3
-# Power came on, and both blocks are there; READ KEYS, whose generation is 0, tells of the key at unit 1 alone.
+# What was written is there; READ KEYS, whose generation is 0, tells of the key at unit 1 alone.
 > LOGIN 7:56 HOST_B
 < LOGGED_IN 7:36 15:02 WELCOME_2
+[0]
+> COMMAND 1:C1 20:00000008 32:5E000000000000000800
+< DATA_IN 7:08 00000000 00000000
+< GOOD 36:00000001
+> COMMAND 1:C1 9:01 20:00000010 32:5E000000000000001000
+< DATA_IN 7:10 00000000 00000008 0000000000000011
+< GOOD 36:00000001
+"#
+}
+
+// What stands for `[0]` in these: power came on at both units; READ (10) of both blocks that were written, each at its unit.
+fn found() -> &'static str {
+    "
 > TEST_UNIT_READY
 < CHECK_CONDITION 0012 70000600000000 0A00000000 2900 00000000
 > TEST_UNIT_READY 9:01
@@ -85,13 +90,7 @@ fn after() -> &'static str {
 > COMMAND 1:C1 9:01 20:00000200 32:28000000000600000100
 < DATA_IN 5:000200 pattern 100+512
 < GOOD 36:00000001
-> COMMAND 1:C1 20:00000008 32:5E000000000000000800
-< DATA_IN 7:08 00000000 00000000
-< GOOD 36:00000001
-> COMMAND 1:C1 9:01 20:00000010 32:5E000000000000001000
-< DATA_IN 7:10 00000000 00000008 0000000000000011
-< GOOD 36:00000001
-"#
+"
 }
 
 // Behind `quit` the desks are closed, so that a command is BUSY.
@@ -187,17 +186,17 @@ fn sites<'a, R: Files<File = File> + Net<Listener = TcpListener, Stream = TcpStr
 }
 
 // An array over new files, which are copied behind its visits, and one over the copies.
-fn story<'a>(site: Site<'a>, left: Site<'a>) -> [Visited<'a>; 2] {
+fn story<'a>(site: Site<'a>, left: Site<'a>, visits: [&'a str; 2]) -> [Visited<'a>; 2] {
     [
         Visited {
             site,
-            visits: before(),
+            visits: visits[0],
             said: told_at_first(),
             left: Some(left),
         },
         Visited {
             site: left,
-            visits: after(),
+            visits: visits[1],
             said: restarted(),
             left: None,
         },
@@ -205,32 +204,26 @@ fn story<'a>(site: Site<'a>, left: Site<'a>) -> [Visited<'a>; 2] {
 }
 
 #[test]
-#[tactic(auto, using(crate::proofs::Disks::units_are, crate::proofs::Disks::preparers_are))]
 fn units_have_their_files_and_portals_their_groups(rt: HostRuntime) -> Result<(), Fail> {
     let alloc = rt.alloc();
     let process = process::id(rt.process());
     let folder = new_folder(&rt, alloc, process)?;
     let paths = paths(alloc, folder.as_str())?;
     let (site, left) = sites(&rt, process, &paths)?;
-    for visited in story(site, left) {
+    let before = filled(alloc, before(), found())?;
+    let after = filled(alloc, after(), found())?;
+    for visited in story(site, left, [before.as_str(), after.as_str()]) {
         let options = visited.site.options(alloc)?;
         let mut hosts = Vec::new(alloc);
         let mut said = Vec::new(alloc);
-        let reader = console(&rt, alloc, &visited, &mut hosts)?;
+        let reader = BufReader::new(alloc, lines(&rt, alloc, &visited, &mut hosts))?;
         let log = Log::off();
         let Ok(array) = open(&rt, alloc, &log, &options) else {
             return Err("an array that is opened".into());
         };
-        let end = serve::<
-            Brand,
-            FileBlocks<SystemFile>,
-            NamedBlocks<HostRuntime>,
-            FileOpener<HostRuntime>,
-            FilePreparer<HostRuntime, SystemFile>,
-            HostRuntime,
-            Console<'_, HostRuntime>,
-            Vec<u8>,
-        >(&rt, alloc, &options, array, &log, None, reader, &mut said);
+        let end = serve::<Brand, _, _, _, _, _, _, _>(
+            &rt, alloc, &options, array, &log, None, reader, &mut said,
+        );
         assert!(rt; end.is_ok());
         compare(&rt, alloc, &visited, said.as_slice(), hosts.as_mut_slice())?;
     }

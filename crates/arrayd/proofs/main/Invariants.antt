@@ -1,16 +1,8 @@
-use Rattle.std.proofs.Common.{[], map}
-use Rattle.portal.specs.Disks.{named_by}
-use Rattle.unit_history.specs.Naming.{book_of, opening_of, table_of}
+use Rattle.array.proofs.Pairs.{disks_of, names_of}
 use Rattle.arrayd.proofs.main.Given as goal
 
 abbrev pub ghosts-serve-N-Array : goal.ghosts-serve-N-Array
-ghosts-serve-N-Array g a = record {
-  book = book_of a.array.units.items;
-  table = table_of a.array.units.items;
-  opening = opening_of (λ d. []) a.array.units.items;
-}
+ghosts-serve-N-Array g a = names_of a.array.units.items
 
 abbrev pub ghosts-serve-N-Disks : goal.ghosts-serve-N-Disks
-ghosts-serve-N-Disks g a = record {
-  disk = named_by (map (λ new. new.unit.device.file.node) a.array.units.items);
-}
+ghosts-serve-N-Disks g a = disks_of (λ new. new.unit.device.file.node) a.array.units.items

@@ -5,39 +5,29 @@ use crate::controllers::script::Deed::{Attach, Read, Send};
 use crate::controllers::script::Told::{Done, Row};
 use crate::controllers::script::{Line, POWER_ON};
 use scsi_types::Group::{One, Two};
+use std::alloc::Global;
 use std::test::*;
 
 // Each unit is served by its owner, and its history is its own.
-fn each() -> &'static [Line] {
-    &[
-        Line(Attach(0, One), Done),
-        Line(Send(0, One, Test), POWER_ON),
-        Line(Attach(1, One), Done),
-        Line(Send(1, Two, Test), POWER_ON),
-        Line(Attach(2, One), Done),
-        Line(Send(2, One, Test), POWER_ON),
-        Line(Attach(3, One), Done),
-        Line(Send(3, Two, Test), POWER_ON),
-        Line(Attach(4, One), Done),
-        Line(Send(4, One, Test), POWER_ON),
-        Line(Attach(5, One), Done),
-        Line(Send(5, Two, Test), POWER_ON),
-        Line(Attach(6, One), Done),
-        Line(Send(6, One, Test), POWER_ON),
-        Line(Attach(7, One), Done),
-        Line(Send(7, Two, Test), POWER_ON),
-        Line(Read(0), Row(1, (0, 1), 2)),
-        Line(Read(1), Row(2, (1, 0), 2)),
-        Line(Read(2), Row(1, (0, 1), 2)),
-        Line(Read(3), Row(2, (1, 0), 2)),
-        Line(Read(4), Row(1, (0, 1), 2)),
-        Line(Read(5), Row(2, (1, 0), 2)),
-        Line(Read(6), Row(1, (0, 1), 2)),
-        Line(Read(7), Row(2, (1, 0), 2)),
-    ]
+fn each(alloc: Global) -> Result<Vec<Line>, Fail> {
+    let mut lines = Vec::new(alloc);
+    for unit in 0..8usize {
+        let owner = if unit % 2 == 0 { One } else { Two };
+        lines.push(Line(Attach(unit, One), Done))?;
+        lines.push(Line(Send(unit, owner, Test), POWER_ON))?;
+    }
+    for unit in 0..8usize {
+        let row = if unit % 2 == 0 {
+            Row(1, (0, 1), 2)
+        } else {
+            Row(2, (1, 0), 2)
+        };
+        lines.push(Line(Read(unit), row))?;
+    }
+    Ok(lines)
 }
 
 #[test]
 fn eight_units(rt: HostRuntime) -> Result<(), Fail> {
-    perform(&rt, rt.alloc(), &[9; 8], each())
+    perform(&rt, rt.alloc(), &[9; 8], each(rt.alloc())?.as_slice())
 }

@@ -1,5 +1,5 @@
 //! The product's units behind what tests see of an array. Its calls are made here, once for all tests.
-ghost use Rattle.std.specs.Prelude.{◌<◌, ◌≤◌, length};
+ghost use Rattle.std.specs.Prelude.{◌<◌, ◌≤◌, IfSome, length};
 ghost use Rattle.unit_history.specs.Naming.{IsNamed};
 
 use crate::controllers::any_array::{Array, End};
@@ -79,6 +79,20 @@ impl<B: Blocks, O: Opener<B>, N: Naming<Opened>> Host<B, O, N> {
     }
 }
 
+impl<W: Wait + Drop, B: Blocks, O: Opener<B>, N: Naming<Opened>> Shared<W, B, O, N> {
+    // Takes the pass of a host, where it has one, of a unit that there is.
+    fn pass_of(&self, host: &mut Host<B, O, N>) -> Option<Pass<B, MemBlocks, O, N>>
+        ensures { IfSome result (λ pass. pass.place < self.now.units) }
+    {
+        let pass = host.pass.take()?;
+        if pass.place() < self.units.count() {
+            Some(pass)
+        } else {
+            None
+        }
+    }
+}
+
 impl<W: Wait + Drop, B: Blocks, O: Opener<B>, N: Naming<Opened>> Array<Host<B, O, N>>
     for Shared<W, B, O, N> {
     fn attach(&self, place: usize, isid: u32, group: Group) -> Option<Host<B, O, N>> {
@@ -102,51 +116,22 @@ impl<W: Wait + Drop, B: Blocks, O: Opener<B>, N: Naming<Opened>> Array<Host<B, O
         command: Command,
         bytes: &[u8],
     ) -> End {
-        let Shared {
-            rt,
-            alloc,
-            units,
-            ..
-        } = self;
-        let Some(pass) = host.pass.take() else {
+        let Some(pass) = self.pass_of(host) else {
             return End::Nobody;
         };
-        if pass.place() >= units.count() {
-            return End::Nobody;
-        }
-        let (pass, end) = units.serve(
-            rt,
-            pass,
-            ReplyMemory::new(*alloc),
-            &by_group,
-            &Ok(command),
-            bytes,
-        );
+        let (units, room) = (&self.units, ReplyMemory::new(self.alloc));
+        let (pass, end) = units.serve(&self.rt, pass, room, &by_group, &Ok(command), bytes);
         host.keep(pass, end)
     }
 
     fn ask_at_desk(&self, host: &mut Host<B, O, N>, command: Command, bytes: &[u8]) -> End {
-        let Shared {
-            rt,
-            alloc,
-            units,
-            desk,
-            ..
-        } = self;
-        let Some(pass) = host.pass.take() else {
+        let Some(pass) = self.pass_of(host) else {
             return End::Nobody;
         };
-        if pass.place() >= units.count() {
-            return End::Nobody;
-        }
-        let (pass, end) = desk.serve(
-            rt,
-            ReplyMemory::new(*alloc),
-            units,
-            pass,
-            &Ok(command),
-            bytes,
-        );
+        let (units, room) = (&self.units, ReplyMemory::new(self.alloc));
+        let (pass, end) = self
+            .desk
+            .serve(&self.rt, room, units, pass, &Ok(command), bytes);
         match end {
             Ok(end) => host.keep(pass, end),
             Err(fault) => {
@@ -185,20 +170,14 @@ impl<W: Wait + Drop, B: Blocks, O: Opener<B>, N: Naming<Opened>> Array<Host<B, O
     }
 
     fn serve_own(&self, host: &mut Host<B, O, N>) -> End {
-        let Shared {
-            rt,
-            alloc,
-            units,
-            desk,
-            ..
-        } = self;
+        let (units, room) = (&self.units, ReplyMemory::new(self.alloc));
         let Some(ticket) = host.ticket.take() else {
             return End::Nobody;
         };
         if ticket.place() >= units.count() {
             return End::Nobody;
         }
-        let (pass, end) = desk.serve_own(rt, ReplyMemory::new(*alloc), units, ticket);
+        let (pass, end) = self.desk.serve_own(&self.rt, room, units, ticket);
         host.keep(pass, end)
     }
 
@@ -210,27 +189,19 @@ impl<W: Wait + Drop, B: Blocks, O: Opener<B>, N: Naming<Opened>> Array<Host<B, O
     }
 
     fn reset(&self, host: &mut Host<B, O, N>) -> bool {
-        let units = &self.units;
-        let Some(pass) = host.pass.take() else {
+        let Some(pass) = self.pass_of(host) else {
             return false;
         };
-        if pass.place() >= units.count() {
-            return false;
-        }
-        let (pass, is_done) = units.reset(&self.rt, pass);
+        let (pass, is_done) = self.units.reset(&self.rt, pass);
         host.pass = Some(pass);
         is_done
     }
 
     fn retire(&self, host: &mut Host<B, O, N>) -> bool {
-        let units = &self.units;
-        let Some(pass) = host.pass.take() else {
+        let Some(pass) = self.pass_of(host) else {
             return false;
         };
-        if pass.place() >= units.count() {
-            return false;
-        }
-        units.retire(&self.rt, pass).is_ok()
+        self.units.retire(&self.rt, pass).is_ok()
     }
 
     fn row(&self, place: usize) -> Option<Row> {

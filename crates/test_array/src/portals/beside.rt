@@ -60,9 +60,9 @@ impl<P: Preparer> Preparer for Reading<P> {
 }
 
 /// What block 1 has when the gate reads, and what it has from then on.
-const BEFORE: u8 = 0x11;
+pub const BEFORE: u8 = 0x11;
 
-const SINCE: u8 = 0x22;
+pub const SINCE: u8 = 0x22;
 
 /// A READ of one block that passes the gate, whether a write of another block ends then, and what the device gives for block 1.
 #[derive(Clone, Copy)]
@@ -116,17 +116,17 @@ fn passings() -> [Passing; 5] {
     ]
 }
 
-// Whether a block was written that this byte fills.
-fn writes<B: Blocks>(device: &mut B, first: u32, byte: u8) -> bool {
+/// Whether a block was written that this byte fills.
+pub fn writes<B: Blocks>(device: &mut B, first: u32, byte: u8) -> bool {
     first < device.count() && device.write_run(first, &[byte; 512]).is_ok()
 }
 
-// The byte that fills block 1 as the device gives it into this memory.
-fn given<B: Blocks>(device: &mut B, memory: BlockMemory) -> Option<u8> {
-    if memory.bytes.len() != 512 || device.count() < 2 {
+/// The byte that fills a block as the device gives it into this memory.
+pub fn given<B: Blocks>(device: &mut B, block: u32, memory: BlockMemory) -> Option<u8> {
+    if memory.bytes.len() != 512 || block >= device.count() {
         return None;
     }
-    let blocks = device.read_into(1, memory).ok()?;
+    let blocks = device.read_into(block, memory).ok()?;
     let byte = *blocks.first()?;
     if blocks.iter().all(|other| *other == byte) {
         Some(byte)
@@ -161,7 +161,7 @@ fn passed<B: Blocks, G: Gate>(
     if !writes(other, 1, SINCE) || passing.is_written && !writes(device, 2, SINCE) {
         return None;
     }
-    given(device, room.memory(512).ok()?)
+    given(device, 1, room.memory(512).ok()?)
 }
 
 // Has each READ pass before a disk of four blocks in a file.

@@ -1,5 +1,6 @@
 //! Devices and openers that fail, what is then seen through both controllers, and what an array finds that is started again.
-use crate::portals::restart::{Story, made, removed, restart, run_twice};
+use crate::portals::restart::{made, removed, restart};
+use crate::portals::serving::{Machine, Story};
 use crate::portals::units::{Faults, NO_FAULTS, file_of, registrations_of};
 use std::test::*;
 
@@ -121,7 +122,7 @@ fn a_restart_and_a_write_an_open_and_a_save_that_fail(rt: HostRuntime) {
         let first_file = registrations_of(&rt, alloc, name);
         let blocks = file_of(&rt, name);
         let file = registrations_of(&rt, alloc, name);
-        run_twice(&rt, alloc, &story, first, first_file, blocks, file);
+        Machine::of(&rt).run_twice(&story, first, first_file, blocks, file);
         removed(&rt, alloc, name);
     }
 }

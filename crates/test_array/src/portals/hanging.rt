@@ -4,16 +4,10 @@ pub fn scripts() -> &'static str {
     r#"
 a unit that does not answer
 # A's command waits before unit 1; meanwhile B is served by unit 0, and C logs in.
-A at 1
-A > LOGIN 7:56 HOST_A
-A < LOGGED_IN 7:36 WELCOME
-A > TEST_UNIT_READY 9:01
-A < CHECK_CONDITION 0012 70000600000000 0A00000000 2900 00000000
-B at 2
-B > LOGIN 7:56 HOST_B
-B < LOGGED_IN 7:36 15:02 WELCOME_2
-B > TEST_UNIT_READY
-B < CHECK_CONDITION 0012 70000600000000 0A00000000 2900 00000000
+A comes 1 HOST_A / WELCOME
+A power 9:01
+B comes 2 HOST_B / 15:02 WELCOME_2
+B power
 gate hold 1
 A > TEST_UNIT_READY 9:01
 gate held 1
@@ -22,22 +16,16 @@ B < GOOD
 B > COMMAND 1:C1 20:00000200 32:28000000000500000100
 B < DATA_IN 5:000200 pattern 512
 B < GOOD 36:00000001
-C at 1
-C > LOGIN 7:56 HOST_B
-C < LOGGED_IN 7:36 15:03 WELCOME
-C > TEST_UNIT_READY
-C < CHECK_CONDITION 0012 70000600000000 0A00000000 2900 00000000
+C comes 1 HOST_B / 15:03 WELCOME
+C power
 gate open
 A < GOOD
 
 a device that hangs
 # A's write hangs in the device of unit 0; meanwhile B is served by unit 1.
 A alone
-B at 2
-B > LOGIN 7:56 HOST_B
-B < LOGGED_IN 7:36 15:02 WELCOME_2
-B > TEST_UNIT_READY 9:01
-B < CHECK_CONDITION 0012 70000600000000 0A00000000 2900 00000000
+B comes 2 HOST_B / 15:02 WELCOME_2
+B power 9:01
 disk hold 0
 A > WRITE 5:000200 pattern 512
 disk held 1
@@ -53,13 +41,9 @@ a desk with writes of a unit whose device hangs
 # Unit 1 moves to controller 1, so that both units are served by way of one desk. Eight writes of unit 0 stand before it, and the
 # first that reaches its device hangs there; meanwhile B is served by unit 1, and unit 0's row is read.
 8 enter 1 LOGIN 7:56 HOST_A
-all > TEST_UNIT_READY
-all < CHECK_CONDITION 0012 70000600000000 0A00000000 2900 00000000
-B at 2
-B > LOGIN 7:56 HOST_B
-B < LOGGED_IN 7:36 15:09 WELCOME_2
-B > TEST_UNIT_READY 9:01
-B < CHECK_CONDITION 0012 70000600000000 0A00000000 2900 00000000
+all power
+B comes 2 HOST_B / 15:09 WELCOME_2
+B power 9:01
 B > WRITE 9:01 7:08 20:00000008 32:A40A00000000000000080000 0000000000000001
 B < GOOD
 gate hold 0
@@ -82,18 +66,11 @@ short commands behind a write that hangs
 # A's write hangs in the device of unit 0, and a short command of each of eight sessions waits behind it: more than are served past
 # the desk's queue at a time. Meanwhile B's go by way of the queue of the same desk, and are served by unit 1.
 8 enter 1 LOGIN 7:56 HOST_A
-all > TEST_UNIT_READY
-all < CHECK_CONDITION 0012 70000600000000 0A00000000 2900 00000000
-A at 1
-A > LOGIN 7:56 HOST_B
-A < LOGGED_IN 7:36 15:09 WELCOME
-A > TEST_UNIT_READY
-A < CHECK_CONDITION 0012 70000600000000 0A00000000 2900 00000000
-B at 2
-B > LOGIN 7:56 HOST_B
-B < LOGGED_IN 7:36 15:0A WELCOME_2
-B > TEST_UNIT_READY 9:01
-B < CHECK_CONDITION 0012 70000600000000 0A00000000 2900 00000000
+all power
+A comes 1 HOST_B / 15:09 WELCOME
+A power
+B comes 2 HOST_B / 15:0A WELCOME_2
+B power 9:01
 B > WRITE 9:01 7:08 20:00000008 32:A40A00000000000000080000 0000000000000001
 B < GOOD
 disk hold 0

@@ -2,8 +2,7 @@
 ghost use Rattle.std.specs.Prelude.{◌≤◌, IfOk, length};
 
 use crate::memory::{HeldBlocks, Latch, new_unit};
-use crate::portals::at::At;
-use crate::portals::serving::{Script, perform};
+use crate::portals::serving::{Machine, Script};
 use block_file::{KeepOpener, MemBlocks};
 use deadline::{Deadlined, DeadlinedOpener, Watch};
 use disk_preparer::Node;
@@ -67,8 +66,7 @@ fn both<R: Threads + Wait + Clock + Clone + Drop + Send + Sync + 'static>(
 fn script() -> &'static str {
     r#"
 A alone
-A > TEST_UNIT_READY 9:01
-A < CHECK_CONDITION 0012 70000600000000 0A00000000 2900 00000000
+A power 9:01
 A > WRITE 5:000200 pattern 512
 A < GOOD
 A > COMMAND 1:C1 20:00000200 32:28000000000500000100
@@ -90,11 +88,8 @@ A < GOOD
 A > COMMAND 1:C1 9:01 20:00000200 32:28000000000500000100
 A < DATA_IN 5:000200 pattern 512
 A < GOOD 36:00000001
-B at 2
-B > LOGIN 7:56 HOST_B
-B < LOGGED_IN 7:36 15:02 WELCOME_2
-B > TEST_UNIT_READY 9:01
-B < CHECK_CONDITION 0012 70000600000000 0A00000000 2900 00000000
+B comes 2 HOST_B / 15:02 WELCOME_2
+B power 9:01
 B > WRITE 9:01 5:000200 pattern 512
 B < GOOD
 0 shows 10
@@ -109,12 +104,7 @@ console down 1 / quit = not moved 0
 fn a_device_that_hangs_has_failed(rt: HostRuntime) {
     let alloc = rt.alloc();
     let script = Script::new("a device that hangs has failed", script());
-    let at = At {
-        rt: &rt,
-        script: script.name,
-        line: "",
-    };
     let disk = Arc::new(alloc, Latch::open(rt.clone().expect(&rt, "memory"))).expect(&rt, "memory");
-    let units = at.must(both(&rt, alloc, &disk));
-    let _ended = perform::<Brand, _, _, _, HostRuntime>(&rt, alloc, units, &disk, &script);
+    let units = script.at(&rt).must(both(&rt, alloc, &disk));
+    let _ended = Machine::of(&rt).perform::<Brand, _, _, _>(units, &disk, &script);
 }

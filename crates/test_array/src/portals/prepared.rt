@@ -117,16 +117,21 @@ fn disks(alloc: Global) -> Result<(Vec<Counted>, Vec<Arc<Counts, Global>>), Fail
     Ok((of, seen))
 }
 
+// A READ of the first block.
+fn read(fua: bool) -> Asked {
+    Ok(Command::Read {
+        lba: 0,
+        blocks: 1,
+        fua,
+    })
+}
+
 #[test]
 fn each_unit_has_its_own_disk_made_ready_and_flushed(rt: HostRuntime) -> Result<(), Fail> {
     let (of, seen) = disks(rt.alloc())?;
     let gate = Prepared::<Counted, Nameless>::new(of);
     // One that comes from the medium; any other is read beside its unit (`Gate::read`).
-    let read: Asked = Ok(Command::Read {
-        lba: 0,
-        blocks: 1,
-        fua: true,
-    });
+    let read = read(true);
     for (unit, (settles, is_done)) in &[
         (0, (true, true)),
         (1, (true, false)),
@@ -156,11 +161,7 @@ fn each_unit_has_its_own_disk_made_ready_and_flushed(rt: HostRuntime) -> Result<
 fn what_is_wanted_of_a_read_is_asked_once(rt: HostRuntime) -> Result<(), Fail> {
     let (of, seen) = disks(rt.alloc())?;
     let gate = Prepared::<Counted, Nameless>::new(of);
-    let read: Asked = Ok(Command::Read {
-        lba: 0,
-        blocks: 1,
-        fua: false,
-    });
+    let read = read(false);
     gate.fetch(0, 7, &read);
     let _room = gate.read(0, 7, &read, ReplyMemory::new(rt.alloc()));
     let disk = seen.first().expect(&rt, "a disk");

@@ -10,9 +10,9 @@ use crate::portals::doors::Doors;
 use crate::portals::no_room::NoRoom;
 use crate::portals::scene::{Portals, Scene};
 use crate::portals::stage::Stage;
-use crate::portals::units::in_memory;
+use crate::portals::units::{Faults, NO_FAULTS, in_memory, opened};
 use array_units::Units;
-use block_file::{Blocks, Opener};
+use block_file::{Blocks, FusedBlocks, FusedOpener, KeepOpener, Opener};
 use event_log::Log;
 use portal::{Controllers, Server, SmallStacks, Stop, TargetDevice, listen, start_lanes};
 use scsi_types::Group;
@@ -62,6 +62,24 @@ impl<'a> Script<'a> {
             text,
         }
     }
+
+    /// Where it is before its first line.
+    pub fn at<R>(&self, rt: &'a R) -> At<'a, R> {
+        At {
+            rt,
+            script: self.name,
+            line: "",
+        }
+    }
+}
+
+/// An array that fails so while hosts perform a script, and, started again, does not while they perform another, which stands
+/// behind the first and an empty line. By its name its file is found.
+#[derive(Clone, Copy)]
+pub struct Story<'a> {
+    pub name: &'a str,
+    pub faults: Faults,
+    pub text: &'a str,
 }
 
 /// A portal that is served.
@@ -196,52 +214,24 @@ fn performed_before<
     performed(rt, alloc, &scene, script)
 }
 
-/// Serves these units, whose devices may hang at this latch, while hosts perform a script: the ports, and the hosts, whose
-/// sessions may still be open.
-pub fn perform<
-    N: Naming<Opened> + Send + Sync + 'static,
-    B: Blocks + Send + Sync + 'static,
-    F: Blocks + Send + Sync + 'static,
-    O: Opener<B> + Send + Sync + 'static,
-    R: Threads
-        + Wait
-        + Clock
-        + Abort
-        + Eprint
-        + Net<Listener = TcpListener, Stream = TcpStream>
-        + Clone
-        + Drop
-        + Send
-        + Sync
-        + 'static,
->(
-    rt: &R,
+/// Where arrays are served.
+#[derive(Clone, Copy)]
+pub struct Machine<'a, R> {
+    rt: &'a R,
     alloc: Global,
-    new: Vec<NewUnit<B, F, O>>,
-    disk: &Latch<R>,
-    script: &Script<'_>,
-) -> ([u16; 2], Vec<Host>)
-    requires named { IsNamed N.book N.table N.opening B.contents new.items }
-    requires count { length new.items ≤ 8 }
-{
-    let (first, first_at) = bind(rt, script.host, script.ports[0]);
-    let (second, second_at) = bind(rt, script.host, script.ports[1]);
-    let server = server_of::<N, B, F, O, R>(rt, alloc, new, first_at, second_at);
-    let stacks = NoRoom {
-        refused: script.refused,
-    };
-    let first = serve::<N, B, F, O, R>(rt, alloc, first, &server, Group::One, stacks);
-    let second = serve::<N, B, F, O, R>(rt, alloc, second, &server, Group::Two, stacks);
-    let portals = [found_at(first_at), found_at(second_at)];
-    let hosts = performed_before(rt, alloc, &server, portals, disk, script);
-    end(rt, first);
-    end(rt, second);
-    server.device.units.close(rt);
-    ([first_at.port(), second_at.port()], hosts)
 }
 
-/// Hosts perform a script before units in memory.
-pub fn run<
+impl<'a, R: AllocGlobal> Machine<'a, R> {
+    /// That of a test.
+    pub fn of(rt: &'a R) -> Machine<'a, R> {
+        Machine {
+            rt,
+            alloc: rt.alloc(),
+        }
+    }
+}
+
+impl<
     R: Threads
         + Wait
         + Clock
@@ -253,14 +243,96 @@ pub fn run<
         + Send
         + Sync
         + 'static,
->(rt: &R, alloc: Global, script: &Script<'_>) {
-    let latch = Latch::open(rt.clone().expect(rt, "memory"));
-    let disk = Arc::new(alloc, latch).expect(rt, "memory");
-    let at = At {
-        rt,
-        script: script.name,
-        line: "",
-    };
-    let units = at.must(in_memory(alloc, &disk, script.is_alone, script.opens));
-    let _ended = perform::<Brand, _, _, _, R>(rt, alloc, units, &disk, script);
+> Machine<'_, R> {
+    /// Serves these units, whose devices may hang at this latch, while hosts perform a script: the ports, and the hosts, whose
+    /// sessions may still be open.
+    pub fn perform<
+        N: Naming<Opened> + Send + Sync + 'static,
+        B: Blocks + Send + Sync + 'static,
+        F: Blocks + Send + Sync + 'static,
+        O: Opener<B> + Send + Sync + 'static,
+    >(
+        &self,
+        new: Vec<NewUnit<B, F, O>>,
+        disk: &Latch<R>,
+        script: &Script<'_>,
+    ) -> ([u16; 2], Vec<Host>)
+        requires named { IsNamed N.book N.table N.opening B.contents new.items }
+        requires count { length new.items ≤ 8 }
+    {
+        let Machine { rt, alloc } = *self;
+        let (first, first_at) = bind(rt, script.host, script.ports[0]);
+        let (second, second_at) = bind(rt, script.host, script.ports[1]);
+        let server = server_of::<N, B, F, O, R>(rt, alloc, new, first_at, second_at);
+        let stacks = NoRoom {
+            refused: script.refused,
+        };
+        let first = serve::<N, B, F, O, R>(rt, alloc, first, &server, Group::One, stacks);
+        let second = serve::<N, B, F, O, R>(rt, alloc, second, &server, Group::Two, stacks);
+        let portals = [found_at(first_at), found_at(second_at)];
+        let hosts = performed_before(rt, alloc, &server, portals, disk, script);
+        end(rt, first);
+        end(rt, second);
+        server.device.units.close(rt);
+        ([first_at.port(), second_at.port()], hosts)
+    }
+
+    /// Hosts perform a script before units in memory.
+    pub fn run(&self, script: &Script<'_>) {
+        let Machine { rt, alloc } = *self;
+        let latch = Latch::open(rt.clone().expect(rt, "memory"));
+        let disk = Arc::new(alloc, latch).expect(rt, "memory");
+        let units = in_memory(alloc, &disk, script.is_alone, script.opens);
+        let units = script.at(rt).must(units);
+        let _ended = self.perform::<Brand, _, _, _>(units, &disk, script);
+    }
+
+    /// Hosts perform each script of a table, before two units or before one, and what they send goes out in pieces of so many bytes.
+    pub fn run_all(&self, table: &str, is_alone: bool, piece: usize) {
+        for part in table.split("\n\n") {
+            let script = Script {
+                is_alone,
+                piece,
+                ..Script::of(part)
+            };
+            self.run(&script);
+        }
+    }
+
+    // Serves a unit over devices that fail so while hosts perform a script: the ports, and the hosts, whose sessions may still be open.
+    fn serve_failing<B: Blocks + Send + Sync + 'static, F: Blocks + Send + Sync + 'static>(
+        &self,
+        blocks: B,
+        file: F,
+        faults: Faults,
+        script: &Script<'_>,
+    ) -> ([u16; 2], Vec<Host>) {
+        let disk = Latch::open(self.rt.clone().expect(self.rt, "memory"));
+        let blocks = FusedBlocks::inside(blocks, faults.passed, faults.landed);
+        let file = FusedBlocks::new(file, faults.registration_calls());
+        let opener = FusedOpener::new(KeepOpener, faults.opened);
+        let units = opened(self.alloc, blocks, opener, file);
+        let units = script.at(self.rt).must(units);
+        self.perform::<Brand, _, _, _>(units, &disk, script)
+    }
+
+    /// Runs a story over the first devices, and behind the restart over the others of the same files.
+    pub fn run_twice<B: Blocks + Send + Sync + 'static, F: Blocks + Send + Sync + 'static>(
+        &self,
+        story: &Story<'_>,
+        first: B,
+        first_file: F,
+        blocks: B,
+        file: F,
+    ) {
+        let (before, after) = story.text.split_once("\n\n").expect(self.rt, story.name);
+        let before = Script::new(story.name, before);
+        let (ports, hosts) = self.serve_failing(first, first_file, story.faults, &before);
+        let again = Script {
+            ports,
+            ..Script::new(story.name, after)
+        };
+        let _ended = self.serve_failing(blocks, file, NO_FAULTS, &again);
+        drop(hosts);
+    }
 }

@@ -1,7 +1,10 @@
 //! The scripts of the tests, a line for what an initiator does or is answered:
 //!
 //! - `A at 1`: it connects to the portal of controller 1, and is called `A` from then on;
-//! - `A alone`: A logs in at controller 1, and unit 0 tells it that power came on; `A and B`: so does B then, at controller 2;
+//! - `A comes 2 HOST_A / 15:02 WELCOME_2`: it connects to the portal of controller 2, logs in by this text, and is answered by that;
+//! - `A refused 1 7:56 HOST_A / 36:0302`: its login by the portal of controller 1 is refused so, and the target closes the connection;
+//! - `A power 9:01`: unit 1 tells it that power came on, and `all power`: unit 0 tells all connections that entered;
+//! - `A alone`: A comes to controller 1, and unit 0 tells it that power came on; `A and B`: so does B then, at controller 2;
 //! - `A > PDU`: it sends this PDU, and `A < PDU`: this PDU comes. `test_connections` says how a PDU is spelled (`pdu_of`). Behind a
 //!   login requests are numbered as they go, and of answers the numbers of the session are not compared;
 //! - `A < PDU / PDU`: one of these comes;
@@ -48,27 +51,8 @@ pub struct Stage<'a, R, S> {
     crowd: Vec<Host>,
 }
 
-// How A comes.
-fn a_comes() -> &'static str {
-    r#"
-A at 1
-A > LOGIN 7:56 HOST_A
-A < LOGGED_IN 7:36 WELCOME
-A > TEST_UNIT_READY
-A < CHECK_CONDITION 0012 70000600000000 0A00000000 2900 00000000
-"#
-}
-
-// How B comes behind it.
-fn b_comes() -> &'static str {
-    r#"
-B at 2
-B > LOGIN 7:56 HOST_B
-B < LOGGED_IN 7:36 15:02 WELCOME_2
-B > TEST_UNIT_READY
-B < CHECK_CONDITION 0012 70000600000000 0A00000000 2900 00000000
-"#
-}
+/// What a unit tells of the power.
+const POWER_ON: &str = "CHECK_CONDITION 0012 70000600000000 0A00000000 2900 00000000";
 
 // What initiators are told of the target: both portals, each with the tag of its group (RFC 7143, appendix C).
 fn told(alloc: Global, ports: [u16; 2]) -> Result<String, AllocError> {
@@ -115,21 +99,21 @@ impl<'a, R: Abort + Eprint, S: Scene> Stage<'a, R, S> {
 
     // A line that may stand for several.
     fn obey_shorthand(&mut self, line: &'a str) {
+        self.at.line = line;
         match line {
-            "A alone" => self.obey_all(a_comes()),
+            "A alone" => self.begin("A", "1 HOST_A / WELCOME"),
             "A and B" => {
-                self.obey_all(a_comes());
-                self.obey_all(b_comes());
+                self.begin("A", "1 HOST_A / WELCOME");
+                self.begin("B", "2 HOST_B / 15:02 WELCOME_2");
             }
             _ => self.obey(line),
         }
     }
 
-    fn obey_all(&mut self, text: &'a str) {
-        let lines = lines_of(self.alloc, text).expect(self.at.rt, "memory");
-        for line in &lines {
-            self.obey(line);
-        }
+    // A host comes, and is told of the power.
+    fn begin(&mut self, name: &'a str, words: &str) {
+        self.come(name, words);
+        self.hear_of_power(name, "");
     }
 
     /// The hosts, as they are behind it.
@@ -148,7 +132,6 @@ impl<'a, R: Abort + Eprint, S: Scene> Stage<'a, R, S> {
     }
 
     fn obey(&mut self, line: &'a str) {
-        self.at.line = line;
         let (who, words) = line.split_once(' ').unwrap_or((line, ""));
         let (verb, rest) = words.split_once(' ').unwrap_or((words, ""));
         match who {
@@ -181,6 +164,10 @@ impl<'a, R: Abort + Eprint, S: Scene> Stage<'a, R, S> {
             ">" => self.send_all(rest),
             "<" => self.compare_all(rest),
             "leave" => self.leave(rest),
+            "power" => {
+                self.send_all("TEST_UNIT_READY");
+                self.compare_all(POWER_ON);
+            }
             _ => self.at.stop("a verb"),
         }
     }
@@ -189,6 +176,11 @@ impl<'a, R: Abort + Eprint, S: Scene> Stage<'a, R, S> {
     fn obey_host(&mut self, who: &'a str, verb: &str, rest: &str) {
         match verb {
             "at" => self.connect(who, rest),
+            "comes" => self.come(who, rest),
+            "refused" => {
+                self.log_in(who, rest, ["LOGIN", "LOGIN_REFUSED"]);
+                self.end(who);
+            }
             ">" => self.send(who, rest),
             "<" => self.compare(who, rest),
             ">>" => self.send_as_is(who, rest),
@@ -197,6 +189,7 @@ impl<'a, R: Abort + Eprint, S: Scene> Stage<'a, R, S> {
             "cut" => self.cut(who, rest),
             "told" => self.compare_text(who),
             "over" => self.end(who),
+            "power" => self.hear_of_power(who, rest),
             _ => self.obey_other(who, verb, rest),
         }
     }
@@ -264,6 +257,29 @@ impl<'a, R: Abort + Eprint, S: Scene> Stage<'a, R, S> {
         self.at.must(host.send_in_pieces(self.piece));
         self.names.push(name).expect(self.at.rt, "memory");
         self.hosts.push(host).expect(self.at.rt, "memory");
+    }
+
+    fn come(&mut self, name: &'a str, words: &str) {
+        self.log_in(name, words, ["LOGIN 7:56", "LOGGED_IN 7:36"]);
+    }
+
+    // A host logs in by a controller, and is answered: how both PDUs begin.
+    fn log_in(&mut self, name: &'a str, words: &str, begins: [&str; 2]) {
+        let [request, response] = begins;
+        let (controller, texts) = words.split_once(' ').unwrap_or((words, ""));
+        let (login, answer) = texts.split_once(" / ").unwrap_or((texts, ""));
+        self.connect(name, controller);
+        let login = format!(in self.alloc; "{request} {login}").expect(self.at.rt, "memory");
+        self.send(name, login.as_str());
+        let answer = format!(in self.alloc; "{response} {answer}").expect(self.at.rt, "memory");
+        self.compare(name, answer.as_str());
+    }
+
+    // The unit of a LUN tells a host that power came on.
+    fn hear_of_power(&mut self, name: &str, lun: &str) {
+        let asked = format!(in self.alloc; "TEST_UNIT_READY {lun}").expect(self.at.rt, "memory");
+        self.send(name, asked.as_str());
+        self.compare(name, POWER_ON);
     }
 
     fn send(&mut self, name: &str, line: &str) {

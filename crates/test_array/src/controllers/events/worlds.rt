@@ -95,37 +95,30 @@ fn asked(alloc: Global, asks: Asks) -> Result<(Asked, Bytes), Fail> {
     Ok((decode(cdb), Bytes::new(data)))
 }
 
-fn submit(
+// A session's command, which is handed in, or which its worker begins at once.
+fn command(
     alloc: Global,
-    session: usize,
-    by_group: Group,
-    asks: Asks,
+    (session, by_group, asks): (usize, Group, Asks),
+    begins: bool,
     is_late: bool,
 ) -> Result<Event, Fail> {
     let (asked, bytes) = asked(alloc, asks)?;
-    Ok(Event::Submit {
-        session,
-        by_group,
-        asked,
-        bytes,
-        is_late,
-    })
-}
-
-fn begin(
-    alloc: Global,
-    session: usize,
-    by_group: Group,
-    asks: Asks,
-    is_late: bool,
-) -> Result<Event, Fail> {
-    let (asked, bytes) = asked(alloc, asks)?;
-    Ok(Event::Begin {
-        session,
-        by_group,
-        asked,
-        bytes,
-        is_late,
+    Ok(if begins {
+        Event::Begin {
+            session,
+            by_group,
+            asked,
+            bytes,
+            is_late,
+        }
+    } else {
+        Event::Submit {
+            session,
+            by_group,
+            asked,
+            bytes,
+            is_late,
+        }
     })
 }
 
@@ -142,8 +135,13 @@ fn event_of(alloc: Global, act: Act) -> Result<Event, Fail> {
             let list = Bytes::new(Vec::from_slice(alloc, list_of(group))?);
             Ok(Event::Move { place, list })
         }
-        Act::Submit(session, by_group, asks) => submit(alloc, session, by_group, asks, false),
-        Act::SubmitLate(session, by_group, asks) => submit(alloc, session, by_group, asks, true),
+        Act::Submit(session, group, asks) => command(alloc, (session, group, asks), false, false),
+        Act::SubmitLate(session, group, asks) => command(
+            alloc,
+            (session, group, asks),
+            false,
+            true,
+        ),
         Act::Again(session) => Ok(Event::SubmitAgain {
             session,
             is_late: false,
@@ -152,8 +150,8 @@ fn event_of(alloc: Global, act: Act) -> Result<Event, Fail> {
             session,
             is_late: true,
         }),
-        Act::Begin(session, by_group, asks) => begin(alloc, session, by_group, asks, false),
-        Act::BeginLate(session, by_group, asks) => begin(alloc, session, by_group, asks, true),
+        Act::Begin(session, group, asks) => command(alloc, (session, group, asks), true, false),
+        Act::BeginLate(session, group, asks) => command(alloc, (session, group, asks), true, true),
         Act::BeginAgain(session) => Ok(Event::BeginAgain {
             session,
             is_late: false,

@@ -1,6 +1,6 @@
 use Rattle.std.proofs.Common.{[]}
 use Rattle.unit_history.specs.Naming.{book_of, opening_of, table_of}
-use Rattle.test_array.proofs.portals.serving.run.Given as goal
+use Rattle.test_array.proofs.portals.serving.Machine.run.Given as goal
 
 abbrev pub ghosts-perform : goal.ghosts-perform
 ghosts-perform g a = record {
