@@ -76,8 +76,8 @@ right-flags b r w a e one (o, inl x) =
     let g = ap (λ (n : ℕ). nat_eq (n / 128 % 2) 1) e in
     cc
 right-flags b r w a e one (o, inr (x, y)) =
-    let read : r ≡ true = sym (read-back r w a) ∙ sym (ap (λ (n : ℕ). nat_eq (n / 64 % 2) 1) e) ∙ x in
-    let write : w ≡ true = sym (write-back r w a) ∙ sym (ap (λ (n : ℕ). nat_eq (n / 32 % 2) 1) e) ∙ y in
+    let read : r ≡ true = read-back r w a ∙ sym (ap (λ (n : ℕ). nat_eq (n / 64 % 2) 1) e) ∙ x in
+    let write : w ≡ true = write-back r w a ∙ sym (ap (λ (n : ℕ). nat_eq (n / 32 % 2) 1) e) ∙ y in
     one read write
 
 flags-right : (h : InitiatorHeader) (n : ℕ) → IsInitiatorInRange h → HasBadFlags (initiator_bhs h n) → ⊥

@@ -5,26 +5,24 @@
 #![tactic(auto)]
 
 mod fault;
+mod fields;
 mod header;
-mod initiator_fields;
 mod initiator_spelling;
 mod laws;
 pub mod numbers;
 mod pieces;
-mod target_fields;
 mod target_spelling;
 
 pub use fault::PduFault;
+pub use fields::{read_initiator, read_target};
 pub use header::{
     CommandNumbers, DataIn, DataOut, Header, InitiatorHeader, LoginRequest, LoginResponse,
     LogoutRequest, LogoutResponse, NopIn, NopOut, Numbers, Pdu, R2t, Reject, ScsiCommand,
     ScsiResponse, TargetHeader, TaskManagementRequest, TaskManagementResponse, TextRequest,
     TextResponse,
 };
-pub use initiator_fields::read_initiator;
 pub use initiator_spelling::spell_initiator;
 pub use laws::{one_front, one_pdu, one_spelling, spelled};
-pub use target_fields::read_target;
 pub use target_spelling::spell_target;
 
 /// The bytes of a basic header segment (RFC 7143, 11.2.1).

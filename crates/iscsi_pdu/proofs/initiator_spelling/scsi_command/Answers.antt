@@ -1,4 +1,4 @@
-use Rattle.std.proofs.Common.{ℕ, List, ◌++◌, take, ap, sym, ◌∙◌, arith}
+use Rattle.std.proofs.Common.{ℕ, List, ◌++◌, take, ap, ◌∙◌, arith}
 use Rattle.std.proofs.lemmas.List.{append-nil}
 use Rattle.iscsi_pdu.specs.declared.header.InitiatorHeader.TheVariants.{ScsiCommand}
 use Rattle.iscsi_pdu.specs.Spelling.{initiator_bhs}
@@ -18,4 +18,4 @@ returns c =
       c.flag_value-opcode.ensures,
     )
     (ap (λ (x : List ℕ). take 32 (initiator_bhs (ScsiCommand p) c.args.len) ++ x) (append-nil p.cdb
-    ∙ sym (cells-whole 16 p.cdb (omega arith))))
+    ∙ cells-whole 16 p.cdb (omega arith)))
