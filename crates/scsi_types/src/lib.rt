@@ -5,6 +5,7 @@ mod attention;
 mod cdb;
 mod command;
 mod form;
+mod found;
 mod inquiries;
 pub mod laws;
 mod lun;

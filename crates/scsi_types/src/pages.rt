@@ -2,6 +2,8 @@
 ghost use Rattle.std.specs.Prelude.{◌≡◌, ◌/◌};
 ghost use Rattle.scsi_types.specs.Found.{IsFoundBy};
 
+use crate::found::found_by;
+
 /// A page of INQUIRY data.
 #[derive(Clone, Copy, Debug, PartialEq, Eq)]
 pub enum InquiryPage {
@@ -98,12 +100,7 @@ impl ModePage {
     pub(crate) fn of(code: u8) -> Option<ModePage>
         ensures { IsFoundBy (λ page. code ≡ mode_page_code page) result }
     {
-        match code {
-            0x08 => Some(ModePage::Caching),
-            0x0A => Some(ModePage::Control),
-            0x3F => Some(ModePage::All),
-            _ => None,
-        }
+        found_by!(code, ModePage: 0x08 = Caching, 0x0A = Control, 0x3F = All)
     }
 }
 
@@ -114,11 +111,6 @@ impl LunSelect {
     pub(crate) fn of(code: u8) -> Option<LunSelect>
         ensures { IsFoundBy (λ select. code ≡ select_code select) result }
     {
-        match code {
-            0 => Some(LunSelect::Units),
-            1 => Some(LunSelect::WellKnown),
-            2 => Some(LunSelect::All),
-            _ => None,
-        }
+        found_by!(code, LunSelect: 0 = Units, 1 = WellKnown, 2 = All)
     }
 }

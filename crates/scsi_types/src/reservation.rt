@@ -2,6 +2,8 @@
 ghost use Rattle.std.specs.Prelude.{◌≡◌};
 ghost use Rattle.scsi_types.specs.Found.{IsFoundBy};
 
+use crate::found::found_by;
+
 /// A service action of PERSISTENT RESERVE IN (SPC-4, 6.15.1), 0 to 3 in this order.
 #[derive(Clone, Copy, Debug, PartialEq, Eq)]
 pub enum PrInAction {
@@ -30,13 +32,7 @@ impl PrInAction {
     pub(crate) fn of(code: u8) -> Option<PrInAction>
         ensures { IsFoundBy (λ action. code ≡ in_code action) result }
     {
-        match code {
-            0 => Some(PrInAction::ReadKeys),
-            1 => Some(PrInAction::ReadReservation),
-            2 => Some(PrInAction::ReportCapabilities),
-            3 => Some(PrInAction::ReadFullStatus),
-            _ => None,
-        }
+        found_by!(code, PrInAction: 0 = ReadKeys, 1 = ReadReservation, 2 = ReportCapabilities, 3 = ReadFullStatus)
     }
 }
 
@@ -47,15 +43,9 @@ impl PrOutAction {
     pub(crate) fn of(code: u8) -> Option<PrOutAction>
         ensures { IsFoundBy (λ action. code ≡ out_code action) result }
     {
-        match code {
-            0 => Some(PrOutAction::Register),
-            1 => Some(PrOutAction::Reserve),
-            2 => Some(PrOutAction::Release),
-            3 => Some(PrOutAction::Clear),
-            4 => Some(PrOutAction::Preempt),
-            5 => Some(PrOutAction::PreemptAndAbort),
-            6 => Some(PrOutAction::RegisterAndIgnoreExistingKey),
-            _ => None,
-        }
+        found_by!(
+            code, PrOutAction: 0 = Register, 1 = Reserve, 2 = Release, 3 = Clear, 4 = Preempt, 5 = PreemptAndAbort,
+            6 = RegisterAndIgnoreExistingKey
+        )
     }
 }
