@@ -6,9 +6,7 @@ mod calls;
 mod digits;
 mod forms;
 mod lines;
-mod logins;
 mod named;
-mod pdus;
 mod rows;
 mod texts;
 

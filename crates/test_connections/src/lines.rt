@@ -20,23 +20,22 @@ pub type Texts<'a> = &'a [(&'a str, &'a str)];
 /// - `pattern 512` or `pattern 1024+512`: so many of the bytes 0, 1, 2, .. modulo 251, from this place on;
 /// - `rejected`, a name and what differs: the header segment of a PDU that is rejected.
 pub fn pdu_of(alloc: Global, texts: Texts<'_>, line: &str) -> Result<Vec<u8>, RowError> {
-    let mut reading = Reading {
-        bytes: Vec::new(alloc),
-        header: None,
-        next: Next::Header,
-        times: 1,
-    };
-    reading.line(texts, line)?;
-    put_padding(&mut reading.bytes)?;
-    Ok(reading.bytes)
+    let mut bytes = read_from(alloc, Next::Header, texts, line)?;
+    put_padding(&mut bytes)?;
+    Ok(bytes)
 }
 
 /// The bytes of these parts.
 pub fn bytes_of(alloc: Global, texts: Texts<'_>, line: &str) -> Result<Vec<u8>, RowError> {
+    read_from(alloc, Next::Part, texts, line)
+}
+
+// The bytes of a line whose first word is this.
+fn read_from(alloc: Global, next: Next, texts: Texts<'_>, line: &str) -> Result<Vec<u8>, RowError> {
     let mut reading = Reading {
         bytes: Vec::new(alloc),
         header: None,
-        next: Next::Part,
+        next,
         times: 1,
     };
     reading.line(texts, line)?;
@@ -104,10 +103,13 @@ impl Reading {
         }
         match self.next {
             Next::Header => {
-                let header = header_named(word).ok_or(RowError::Word)?;
+                let (plain, differing) = header_named(word).ok_or(RowError::Word)?;
                 self.header = Some(self.bytes.len());
-                self.bytes.extend_from_slice(&header)?;
+                put_digits(&mut self.bytes, plain)?;
                 self.next = Next::Part;
+                for word in differing.split_ascii_whitespace() {
+                    self.differ(word)?;
+                }
                 Ok(())
             }
             Next::Part => self.part(texts, word),

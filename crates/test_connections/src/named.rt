@@ -1,33 +1,57 @@
-//! Header segments by their names.
-use crate::logins::{LOGGED_IN, LOGIN, LOGIN_REFUSED, NOT_IN_LOGIN};
-use crate::pdus::{
-    CHECK_CONDITION, COMMAND, DATA_IN, DATA_OUT, GOOD, LOGGED_OUT, LOGOUT, NOP_IN, NOP_OUT, R2T,
-    REJECT, TASK_REQUEST, TASK_RESPONSE, TEXT_REQUEST, TEXT_RESPONSE, WRITE,
-};
+//! Header segments by their names (RFC 7143, section 11): each is one of two plain ones and what differs from it, in the notation of
+//! lines.
 
-/// The header segment of this name. The CDB of zeros that a SCSI Command has at first is that of TEST UNIT READY.
-pub(crate) fn header_named(name: &str) -> Option<[u8; 48]> {
+/// A plain request in words of four bytes: a NOP-Out with F and no data, to LUN 0, with the tag 1, CmdSN 1 and ExpStatSN 1.
+const REQUEST: &str =
+    "00800000 00000000 00000000 00000000 00000001 00000000 00000001 00000001 00000000 00000000 00000000 00000000";
+
+/// A plain answer: a NOP-In with F and no data, for the tag 1, with StatSN 1, ExpCmdSN 2 and MaxCmdSN 33.
+const ANSWER: &str =
+    "20800000 00000000 00000000 00000000 00000001 00000000 00000001 00000002 00000021 00000000 00000000 00000000";
+
+/// The header segment of this name: the digits of a plain one, and what differs from it.
+pub(crate) fn header_named(name: &str) -> Option<(&'static str, &'static str)> {
     match name {
-        "COMMAND" | "TEST_UNIT_READY" => Some(COMMAND),
-        "WRITE" => Some(WRITE),
-        "DATA_OUT" => Some(DATA_OUT),
-        "GOOD" => Some(GOOD),
-        "CHECK_CONDITION" => Some(CHECK_CONDITION),
-        "DATA_IN" => Some(DATA_IN),
-        "R2T" => Some(R2T),
-        "REJECT" => Some(REJECT),
-        "NOP_OUT" => Some(NOP_OUT),
-        "NOP_IN" => Some(NOP_IN),
-        "LOGOUT" => Some(LOGOUT),
-        "LOGGED_OUT" => Some(LOGGED_OUT),
-        "TEXT_REQUEST" => Some(TEXT_REQUEST),
-        "TEXT_RESPONSE" => Some(TEXT_RESPONSE),
-        "TASK_REQUEST" => Some(TASK_REQUEST),
-        "TASK_RESPONSE" => Some(TASK_RESPONSE),
-        "LOGIN" => Some(LOGIN),
-        "LOGGED_IN" => Some(LOGGED_IN),
-        "LOGIN_REFUSED" => Some(LOGIN_REFUSED),
-        "NOT_IN_LOGIN" => Some(NOT_IN_LOGIN),
+        // A SCSI Command with the attribute SIMPLE, whose CDB of zeros is that of TEST UNIT READY. In byte 1, C1h has R, A1h
+        // W, and E1h both.
+        "COMMAND" | "TEST_UNIT_READY" => Some((REQUEST, "0:0181")),
+        // WRITE (10) of one block at block 5, which expects 512 bytes and brings none.
+        "WRITE" => Some((REQUEST, "0:01A1 20:00000200 32:2A 37:05 40:01")),
+        // The Data-Out of 512 bytes for it, which has no CmdSN.
+        "DATA_OUT" => Some((REQUEST, "0:05 5:000200 24:00000000")),
+        // The answer of TEST UNIT READY. In byte 1, 82h has U, and 84h O (11.4.1).
+        "GOOD" => Some((ANSWER, "0:21")),
+        // CHECK CONDITION for it, with 20 bytes of SenseLength and sense.
+        "CHECK_CONDITION" => Some((ANSWER, "0:21 3:02 5:000014")),
+        // The Data-In of all the data, with no Target Transfer Tag and no StatSN; its length is still 0.
+        "DATA_IN" => Some((ANSWER, "0:25 20:FFFFFFFF 24:00000000")),
+        // The R2T for all the data of WRITE: no status yet, whose StatSN will be 1, and MaxCmdSN 32, as it waits.
+        "R2T" => Some((ANSWER, "0:31 32:00000020 44:00000200")),
+        // A Reject for the reason 0, with 48 bytes of data, before anything was accepted: ExpCmdSN 1 and MaxCmdSN 32.
+        "REJECT" => Some((ANSWER, "0:3F 5:000030 16:FFFFFFFF 28:00000001 32:00000020")),
+        "NOP_OUT" => Some((REQUEST, "20:FFFFFFFF")),
+        "NOP_IN" => Some((ANSWER, "20:FFFFFFFF")),
+        // A logout for the reason 0, which stands in byte 1.
+        "LOGOUT" => Some((REQUEST, "0:06")),
+        // Its answer, with Time2Wait 2 and Time2Retain 0; the response stands in byte 2.
+        "LOGGED_OUT" => Some((ANSWER, "0:26 40:0002")),
+        "TEXT_REQUEST" => Some((REQUEST, "0:04 20:FFFFFFFF")),
+        "TEXT_RESPONSE" => Some((ANSWER, "0:24 20:FFFFFFFF")),
+        // A task management request, whose function stands in byte 1.
+        "TASK_REQUEST" => Some((REQUEST, "0:02")),
+        // Its answer; the response stands in byte 2.
+        "TASK_RESPONSE" => Some((ANSWER, "0:22")),
+        // A Login Request of stage 1, ready for full feature phase, of the ISID 400001370000h, with ExpStatSN 0 (11.12).
+        "LOGIN" => Some((REQUEST, "0:4387 8:400001370000 28:00000000")),
+        // Its response, where it begins the session with the TSIH 1: ExpCmdSN 1 and MaxCmdSN 32 (11.13).
+        "LOGGED_IN" => Some((ANSWER, "0:2387 8:4000013700000001 28:00000001 32:00000020")),
+        // Its response, where it is refused as an initiator error: neither T, NSG nor text.
+        "LOGIN_REFUSED" => Some((
+            ANSWER,
+            "0:2304 8:400001370000 28:00000001 32:00000020 36:0200",
+        )),
+        // The response to another PDU of an initiator before a Login Request: ExpCmdSN 0, MaxCmdSN 31, and invalid during login.
+        "NOT_IN_LOGIN" => Some((ANSWER, "0:2300 28:00000000 32:0000001F 36:020B")),
         _ => None,
     }
 }
