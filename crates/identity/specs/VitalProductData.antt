@@ -48,23 +48,16 @@ pub data Association : Type 0 where
   TargetPort : Association
 
 -- PROTOCOL IDENTIFIER, PIV and ASSOCIATION: an iSCSI port, where it is a port
-abbrev pub protocol_of : Association → ℕ
-protocol_of LogicalUnit = 0x0
-protocol_of TargetPort = 0x5
-
-abbrev pub piv_of : Association → ℕ
-piv_of LogicalUnit = 0
-piv_of TargetPort = 1
-
-abbrev pub association_of : Association → ℕ
-association_of LogicalUnit = 0x0
-association_of TargetPort = 0x1
+abbrev pub association_fields : Association → ℕ × ℕ × ℕ
+association_fields LogicalUnit = (0x0, 0, 0x0)
+association_fields TargetPort = (0x5, 1, 0x1)
 
 -- a designation descriptor with a binary designator of a type
 abbrev pub designation : Association → ℕ → List Row → List Row
 designation association designator_type designator =
-    Shared (bits "PROTOCOL IDENTIFIER" 4 (protocol_of association) ∷ bits "CODE SET" 4 0x1 ∷ [])
-    ∷ Shared (flag "PIV" (piv_of association) ∷ flag "Reserved" 0 ∷ bits "ASSOCIATION" 2 (association_of association)
+    let fields : ℕ × ℕ × ℕ = association_fields association in
+    Shared (bits "PROTOCOL IDENTIFIER" 4 fields.0 ∷ bits "CODE SET" 4 0x1 ∷ [])
+    ∷ Shared (flag "PIV" fields.1 ∷ flag "Reserved" 0 ∷ bits "ASSOCIATION" 2 fields.2
     ∷ bits "DESIGNATOR TYPE" 4 designator_type ∷ [])
     ∷ Reserved 1
     ∷ Byte "DESIGNATOR LENGTH" (length (spell designator))
