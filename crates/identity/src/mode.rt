@@ -1,7 +1,7 @@
 //! MODE SENSE data.
-ghost use Rattle.std.specs.Prelude.{◌≡◌, ◌≤◌, ◌++◌, length, IfOk};
+ghost use Rattle.std.specs.Prelude.{◌≡◌, ◌≤◌, length, IfOk};
 ghost use Rattle.identity.specs.Table.{cut, spell};
-ghost use Rattle.identity.specs.Mode.{mode_data, mode_header, mode_pages};
+ghost use Rattle.identity.specs.Mode.{mode_data, mode_pages};
 
 use crate::cut::cut_to;
 use byteorder::{BigEndian, ByteOrder};
@@ -37,9 +37,22 @@ pub fn mode_sense(
     ensures { IfOk result (λ v. v.items ≡ cut allocation (spell (mode_data header control page))) }
 {
     let pages = asked_pages(control, page);
+    let length = pages.len();
+    let allocation = u32::from(allocation);
+    let mut list = [0; 40];
     match header {
-        ModeHeader::Six => with_header_6(alloc, pages, allocation),
-        ModeHeader::Ten => with_header_10(alloc, pages, allocation),
+        ModeHeader::Six => {
+            list[0] = 3 + length as u8;
+            list[2] = DPOFUA;
+            list[4..4 + length].copy_from_slice(pages);
+            cut_to(alloc, allocation, &list[..4 + length])
+        }
+        ModeHeader::Ten => {
+            BigEndian::write_u16(&mut list, 6 + length as u16);
+            list[3] = DPOFUA;
+            list[8..8 + length].copy_from_slice(pages);
+            cut_to(alloc, allocation, &list[..8 + length])
+        }
     }
 }
 
@@ -57,32 +70,4 @@ fn asked_pages(control: PageControl, page: ModePage) -> &'static [u8]
         ModePage::Control => &pages[CACHING..],
         ModePage::All => pages,
     }
-}
-
-// The pages behind the header of MODE SENSE (6).
-fn with_header_6(alloc: Global, pages: &[u8], allocation: u16) -> Result<Vec<u8>, NoMemory>
-    requires { length pages.now ≤ 32 }
-    ensures { IfOk result (λ v. v.items
-        ≡ cut allocation (spell (mode_header ModeHeader.Six (length pages.now)) ++ pages.now)) }
-{
-    let length = pages.len();
-    let mut list = [0; 36];
-    list[0] = 3 + length as u8;
-    list[2] = DPOFUA;
-    list[4..4 + length].copy_from_slice(pages);
-    cut_to(alloc, u32::from(allocation), &list[..4 + length])
-}
-
-// The pages behind the header of MODE SENSE (10).
-fn with_header_10(alloc: Global, pages: &[u8], allocation: u16) -> Result<Vec<u8>, NoMemory>
-    requires { length pages.now ≤ 32 }
-    ensures { IfOk result (λ v. v.items
-        ≡ cut allocation (spell (mode_header ModeHeader.Ten (length pages.now)) ++ pages.now)) }
-{
-    let length = pages.len();
-    let mut list = [0; 40];
-    BigEndian::write_u16(&mut list, 6 + length as u16);
-    list[3] = DPOFUA;
-    list[8..8 + length].copy_from_slice(pages);
-    cut_to(alloc, u32::from(allocation), &list[..8 + length])
 }
