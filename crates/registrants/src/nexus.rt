@@ -3,12 +3,9 @@ ghost use Rattle.std.specs.Prelude.{◌≡◌, ◌↔◌, ◌≤◌, IsTrue};
 ghost use Rattle.scsi_types.specs.Nexus.{IsPortName};
 ghost use Rattle.registrants.specs.Nexus.{nexus_cmp, other_nexus, same_nexus, same_port};
 
-use scsi_types::{Group, PortName};
+use scsi_types::{Group, LONGEST_NAME, PortName};
 use std::cmp::Ordering;
 use std::marker::Model;
-
-// The most bytes of an InitiatorName (RFC 7143, 4.2.7.1).
-const LONGEST_NAME: usize = 223;
 
 /// An I_T nexus (SAM-5, 4.6): an initiator port, and the target port group through which it comes. The name stands in the
 /// nexus itself, so a copy takes no memory.
@@ -22,7 +19,7 @@ pub struct Nexus {
 
 impl Model for Nexus {
     ghost use Rattle.std.specs.Prelude.{◌≤◌, take};
-    ghost use Rattle.scsi_types.specs.Nexus.{IsPortName, Nexus as NexusValue};
+    ghost use Rattle.scsi_types.specs.Nexus.{IsPortName, Nexus as NexusValue, longest_name};
 
     ghost Value = { NexusValue };
 
@@ -32,7 +29,7 @@ impl Model for Nexus {
     } };
 
     ghost invariant = { λ n. IsPortName (record { name = take n.length_of_name n.name; isid = n.isid })
-        × (n.length_of_name ≤ 223) };
+        × (n.length_of_name ≤ longest_name) };
 }
 
 impl Nexus {
