@@ -1,41 +1,21 @@
 -- The order of nexuses is total, and tells two apart just where they are two.
 use Rattle.std.proofs.Common.{◌≡◌, ℕ, Bool, true, nat_eq, ◌&&◌, refl, sym, ◌∙◌, ap, arith}
+use Rattle.std.proofs.Math.Bool.{and-false, and-true}
 use Rattle.std.proofs.lemmas.Cmp.{nat_cmp_total, nat_list_cmp_total, on_total, then_total, tied_itself}
 use Rattle.std.specs.Cmp.{IsTotalOrder}
 use Rattle.std.specs.Cmp.Lexicographic.{slice_cmp, lists_ties}
-use Rattle.std.specs.Ordering.{is_eq, eq_by_cmp, nat_cmp, ordering_then, ordering_reverse}
+use Rattle.std.specs.Ordering.{is_eq, eq_by_cmp, nat_cmp, ordering_then}
 use Rattle.std.specs.declared.cmp.Ordering.{Ordering}
 use Rattle.std.specs.declared.cmp.Ordering.TheVariants.{Less, Equal, Greater}
 use lib.Pointwise.{pointwise}
-use Rattle.scsi_types.specs.Nexus.{Port, Nexus, port_cmp}
-use Rattle.scsi_types.specs.declared.names.Group.{Group}
-use Rattle.scsi_types.specs.declared.names.Group.TheVariants.{One, Two}
+use Rattle.scsi_types.specs.Nexus.{Port, Nexus, group_number, port_cmp}
 use Rattle.registrants.specs.Nexus.{same_port, same_group, same_nexus, group_cmp, nexus_cmp}
-
-group_back : (a b : Group) → group_cmp a b ≡ ordering_reverse (group_cmp b a)
-group_back One One = refl
-group_back One Two = refl
-group_back Two One = refl
-group_back Two Two = refl
-
-group_chain : (a b c : Group) → group_cmp a b ≡ Less → group_cmp b c ≡ Less → group_cmp a c ≡ Less
-group_chain One Two One h k = absurd (cc)
-group_chain One Two Two h k = absurd (cc)
-group_chain One One c h k = absurd (cc)
-group_chain Two One c h k = absurd (cc)
-group_chain Two Two c h k = absurd (cc)
-
-group_alike : (a b c : Group) → group_cmp a b ≡ Equal → group_cmp a c ≡ group_cmp b c
-group_alike One One c h = refl
-group_alike Two Two c h = refl
-group_alike One Two c h = absurd (cc)
-group_alike Two One c h = absurd (cc)
 
 port_total : IsTotalOrder port_cmp
 port_total = then_total (on_total (λ (p : Port). p.name) nat_list_cmp_total) (on_total (λ (p : Port). p.isid) nat_cmp_total)
 
 group_total : IsTotalOrder group_cmp
-group_total = record { antisymm = group_back; trans = group_chain; congr = group_alike }
+group_total = on_total group_number nat_cmp_total
 
 pub nexus_total : IsTotalOrder nexus_cmp
 nexus_total = then_total (on_total (λ (n : Nexus). n.port) port_total) (on_total (λ (n : Nexus). n.group) group_total)
@@ -43,24 +23,12 @@ nexus_total = then_total (on_total (λ (n : Nexus). n.port) port_total) (on_tota
 -- ---- the order and the test
 
 both_equal : (a b : Ordering) → is_eq (ordering_then a b) ≡ is_eq b && is_eq a
-both_equal Less Less = refl
-both_equal Less Equal = refl
-both_equal Less Greater = refl
-both_equal Equal Less = refl
-both_equal Equal Equal = refl
-both_equal Equal Greater = refl
-both_equal Greater Less = refl
-both_equal Greater Equal = refl
-both_equal Greater Greater = refl
+both_equal Less b = sym (and-false (is_eq b))
+both_equal Equal b = sym (and-true (is_eq b))
+both_equal Greater b = sym (and-false (is_eq b))
 
 number_tie : (x y : ℕ) → nat_eq x y ≡ eq_by_cmp nat_cmp x y
 number_tie x y = grind (arith)
-
-same_group_is : (a b : Group) → same_group a b ≡ is_eq (group_cmp a b)
-same_group_is One One = refl
-same_group_is One Two = refl
-same_group_is Two One = refl
-same_group_is Two Two = refl
 
 by_tests : (s t : Bool) (a b : Ordering) → s ≡ is_eq a → t ≡ is_eq b → t && s ≡ is_eq (ordering_then a b)
 by_tests s t a b h k = rw (h, k) (sym (both_equal a b))
@@ -74,7 +42,7 @@ same_port_is p q =
 pub same_nexus_is : (m n : Nexus) → same_nexus m n ≡ is_eq (nexus_cmp m n)
 same_nexus_is m n =
     by_tests (same_port m.port n.port) (same_group m.group n.group) (port_cmp m.port n.port) (group_cmp m.group n.group)
-    (same_port_is m.port n.port) (same_group_is m.group n.group)
+    (same_port_is m.port n.port) (number_tie (group_number m.group) (group_number n.group))
 
 equal_one : (o : Ordering) → is_eq o ≡ true → o ≡ Equal
 equal_one Less h = absurd (cc)

@@ -1,32 +1,24 @@
 -- I_T nexuses (SAM-5, 4.6): when two are one, and the order in which registrants are listed.
-use Rattle.std.specs.Prelude.{Bool, true, false, ◌&&◌, nat_eq}
-use Rattle.std.specs.Ordering.{ordering_then}
+use Rattle.std.specs.Prelude.{Bool, ◌&&◌, nat_eq}
+use Rattle.std.specs.Ordering.{nat_cmp, ordering_then}
 use Rattle.std.specs.declared.cmp.Ordering.{Ordering}
-use Rattle.std.specs.declared.cmp.Ordering.TheVariants.{Less, Equal, Greater}
 use lib.Pointwise.{pointwise}
-use Rattle.scsi_types.specs.Nexus.{Port, Nexus, other_group, port_cmp}
+use Rattle.scsi_types.specs.Nexus.{Port, Nexus, group_number, other_group, port_cmp}
 use Rattle.scsi_types.specs.declared.names.Group.{Group}
-use Rattle.scsi_types.specs.declared.names.Group.TheVariants.{One, Two}
 
 -- one port: the same ISID, and the same bytes of the name
 abbrev pub same_port : Port → Port → Bool
 same_port p q = nat_eq p.isid q.isid && pointwise nat_eq p.name q.name
 
 abbrev pub same_group : Group → Group → Bool
-same_group One One = true
-same_group One Two = false
-same_group Two One = false
-same_group Two Two = true
+same_group a b = nat_eq (group_number a) (group_number b)
 
 -- one nexus: the same port through the same group
 abbrev pub same_nexus : Nexus → Nexus → Bool
 same_nexus m n = same_group m.group n.group && same_port m.port n.port
 
 abbrev pub group_cmp : Group → Group → Ordering
-group_cmp One One = Equal
-group_cmp One Two = Less
-group_cmp Two One = Greater
-group_cmp Two Two = Equal
+group_cmp a b = nat_cmp (group_number a) (group_number b)
 
 -- the order of nexuses: by the bytes of the name, then by the ISID, then by the group
 abbrev pub nexus_cmp : Nexus → Nexus → Ordering
