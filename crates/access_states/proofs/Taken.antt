@@ -3,6 +3,7 @@ use Rattle.std.proofs.Common.{◌≡◌, ◌≢◌, ℕ, Bool, true, false, if�
 use Rattle.std.proofs.Common.{Some, None, Result, Ok, Err}
 use Rattle.std.proofs.Common.{IsTrue, IsOkAnd, refl, sym, ◌∙◌, ap, subst, arith}
 use Rattle.std.proofs.lemmas.Grind.{common_steps}
+use Rattle.scsi_types.specs.Nexus.{other_group}
 use Rattle.scsi_types.specs.declared.names.Group.{Group}
 use Rattle.scsi_types.specs.declared.names.Group.TheVariants.{One, Two}
 use Rattle.access_states.specs.declared.list.Named.{Named}
@@ -11,7 +12,7 @@ use Rattle.access_states.specs.declared.state.AccessState.{AccessState}
 use Rattle.access_states.specs.declared.state.AccessState.TheVariants.{ActiveOptimized, ActiveNonOptimized, Standby, Unavailable}
 use Rattle.access_states.specs.declared.state.Cause.{Cause}
 use Rattle.access_states.specs.declared.state.GroupAccess.{GroupAccess}
-use Rattle.access_states.specs.AccessMap.{AccessMapValue, group_access, has_one_owner, owner_of}
+use Rattle.access_states.specs.AccessMap.{AccessMapValue, group_access, has_one_owner, just_one_optimized, owner_of}
 use Rattle.access_states.specs.Change.{access_after, after_named, altered_to, becomes_optimized, next_state, map_after, with_one_owner}
 use Rattle.access_states.specs.Laws.{IsTaken, OwnsBeside, named_for}
 use Rattle.access_states.specs.List.{named_by}
@@ -112,16 +113,6 @@ pub nothing_named : (cause : Cause) (old : AccessMapValue) → IsTrue (has_one_o
     → with_one_owner (map_after cause old (record { one = None; two = None })) ≡ Ok old
 nothing_named cause old h = grind (arith, common_steps, unmoved cause old.one, unmoved cause old.two, h)
 
--- a list that names one group alone, and one that names both
-abbrev only_one : Option AccessState → Named
-only_one t = record { one = t; two = None }
-
-abbrev only_two : Option AccessState → Named
-only_two t = record { one = None; two = t }
-
-abbrev both_named : AccessState → AccessState → Named
-both_named one two = record { one = Some one; two = Some two }
-
 -- active/non-optimized where the other becomes active/optimized, else as it was
 abbrev or_less : AccessState → Bool → AccessState
 or_less own b = if b then ActiveNonOptimized else own
@@ -142,15 +133,20 @@ owned_two : (old : AccessMapValue) (t : Option AccessState) → IsTrue (has_one_
     → owner_of old ≡ Two
 owned_two old t one h = grind (arith, common_steps, one, was_not old.one.state t h)
 
-lost_one : (cause : Cause) (old : AccessMapValue) (t : Option AccessState) → becomes_optimized old.two.state t ≡ true
-    → (map_after cause old (only_two t)).one.state ≡ ActiveNonOptimized
-lost_one cause old t h =
-    altered_state cause old.one (next_state old.one.state None old.two.state t) ∙ ap (or_less old.one.state) h
+-- the access of a group that is not named, by whether the other becomes active/optimized
+lost : (cause : Cause) (own : GroupAccess) (named : Option AccessState) (other : AccessState) (named_other : Option AccessState)
+    → named ≡ None → becomes_optimized other named_other ≡ true
+    → (altered_to cause own (next_state own.state named other named_other)).state ≡ ActiveNonOptimized
+lost cause own named other named_other none e =
+    altered_state cause own (next_state own.state named other named_other)
+    ∙ ap (λ a. next_state own.state a other named_other) none ∙ ap (or_less own.state) e
 
-lost_two : (cause : Cause) (old : AccessMapValue) (t : Option AccessState) → becomes_optimized old.one.state t ≡ true
-    → (map_after cause old (only_one t)).two.state ≡ ActiveNonOptimized
-lost_two cause old t h =
-    altered_state cause old.two (next_state old.two.state None old.one.state t) ∙ ap (or_less old.two.state) h
+left_alone : (cause : Cause) (own : GroupAccess) (named : Option AccessState) (other : AccessState)
+    (named_other : Option AccessState) → named ≡ None → becomes_optimized other named_other ≡ false
+    → altered_to cause own (next_state own.state named other named_other) ≡ own
+left_alone cause own named other named_other none e =
+    ap (λ a. altered_to cause own (next_state own.state a other named_other)) none
+    ∙ ap (λ b. altered_to cause own (or_less own.state b)) e ∙ unmoved cause own
 
 -- what stays and what gives way, where a group is not named
 abbrev pub Stays : AccessMapValue → AccessMapValue → Group → Type 0
@@ -162,49 +158,40 @@ GivesWay old new g = owner_of old ≡ g → owner_of new ≢ g → (group_access
 abbrev pub IsLeft : AccessMapValue → AccessMapValue → Group → Type 0
 IsLeft old new g = Stays old new g × GivesWay old new g
 
+-- an active/non-optimized group does not own the unit, and an owner whose access stays owns it still
+no_owner : (new : AccessMapValue) (g : Group) → has_one_owner new ≡ true
+    → (group_access new g).state ≡ ActiveNonOptimized → owner_of new ≢ g
+no_owner new One is state owner = grind (arith, common_steps, is, state, owner)
+no_owner new Two is state owner = grind (arith, common_steps, is, state, owner)
+
+owner_still : (old new : AccessMapValue) (g : Group) → IsTrue (has_one_owner old) → has_one_owner new ≡ true
+    → is_optimized (group_access new g).state ≡ is_optimized (group_access old g).state
+    → owner_of old ≡ g → owner_of new ≡ g
+owner_still old new One was is same owned = grind (arith, common_steps, same, owned, was, is)
+owner_still old new Two was is same owned = grind (arith, common_steps, same, owned, was, is)
+
 -- by whether the other becomes active/optimized
-left_by : (old new : AccessMapValue) (g : Group) (other : Bool)
-    → (other ≡ true → (owner_of old ≡ g) × ((group_access new g).state ≡ ActiveNonOptimized) × (owner_of new ≢ g))
-    → (other ≡ false → (group_access new g ≡ group_access old g) × (owner_of old ≡ g → owner_of new ≡ g))
-    → IsLeft old new g
-left_by old new g true lost kept = let l = lost refl in (λ owner. absurd (l.2 (owner l.0)), λ owned other. l.1)
-left_by old new g false lost kept = let k = kept refl in (λ owner. k.0, λ owned other. absurd (other (k.1 owned)))
-
-unnamed_one : (cause : Cause) (old : AccessMapValue) (t : Option AccessState) → IsTrue (has_one_owner old)
-    → has_one_owner (map_after cause old (only_two t)) ≡ true
-    → IsLeft old (map_after cause old (only_two t)) One
-unnamed_one cause old t was is =
-    left_by old (map_after cause old (only_two t)) One (becomes_optimized old.two.state t)
-    (λ e. (owned_one old t was e, lost_one cause old t e, λ owner. grind (arith, common_steps, owner, lost_one cause old t e, is)))
-    (λ e.
-    let same_access : (map_after cause old (only_two t)).one ≡ old.one =
-    ap (λ b. altered_to cause old.one (or_less old.one.state b)) e ∙ unmoved cause old.one in
-    let as_before = ap (λ (a : GroupAccess). is_optimized a.state) same_access in
-    (same_access, λ owned. grind (arith, common_steps, as_before, owned, was, is)))
-
-unnamed_two : (cause : Cause) (old : AccessMapValue) (t : Option AccessState) → IsTrue (has_one_owner old)
-    → has_one_owner (map_after cause old (only_one t)) ≡ true
-    → IsLeft old (map_after cause old (only_one t)) Two
-unnamed_two cause old t was is =
-    left_by old (map_after cause old (only_one t)) Two (becomes_optimized old.one.state t)
-    (λ e. (owned_two old t was e, lost_two cause old t e, λ owner. grind (arith, common_steps, owner, lost_two cause old t e, is)))
-    (λ e.
-    let same_access : (map_after cause old (only_one t)).two ≡ old.two =
-    ap (λ b. altered_to cause old.two (or_less old.two.state b)) e ∙ unmoved cause old.two in
-    let as_before = ap (λ (a : GroupAccess). is_optimized a.state) same_access in
-    (same_access, λ owned. grind (arith, common_steps, as_before, owned, was, is)))
+left_by : (old new : AccessMapValue) (g : Group) (other : Bool) → IsTrue (has_one_owner old) → has_one_owner new ≡ true
+    → (other ≡ true → (owner_of old ≡ g) × ((group_access new g).state ≡ ActiveNonOptimized))
+    → (other ≡ false → group_access new g ≡ group_access old g) → IsLeft old new g
+left_by old new g true was is lost kept =
+    let l = lost refl in (λ owner. absurd (no_owner new g is l.1 (owner l.0)), λ owned other. l.1)
+left_by old new g false was is lost kept =
+    let k = kept refl in
+    let same = ap (λ (a : GroupAccess). is_optimized a.state) k in
+    (λ owner. k, λ owned other. absurd (other (owner_still old new g was is same owned)))
 
 pub unnamed : (cause : Cause) (old : AccessMapValue) (named : Named) (g : Group) → IsTrue (has_one_owner old)
     → has_one_owner (map_after cause old named) ≡ true → named_for named g ≡ None
     → IsLeft old (map_after cause old named) g
-unnamed cause old named One was is h =
-    subst (λ a. let new : AccessMapValue = map_after cause old (record { one = a; two = named.two }) in
-    has_one_owner new ≡ true → IsLeft old new One) (sym h)
-    (unnamed_one cause old named.two was) is
-unnamed cause old named Two was is h =
-    subst (λ a. let new : AccessMapValue = map_after cause old (record { one = named.one; two = a }) in
-    has_one_owner new ≡ true → IsLeft old new Two) (sym h)
-    (unnamed_two cause old named.one was) is
+unnamed cause old named One was is none =
+    left_by old (map_after cause old named) One (becomes_optimized old.two.state named.two) was is
+    (λ e. (owned_one old named.two was e, lost cause old.one named.one old.two.state named.two none e))
+    (left_alone cause old.one named.one old.two.state named.two none)
+unnamed cause old named Two was is none =
+    left_by old (map_after cause old named) Two (becomes_optimized old.one.state named.one) was is
+    (λ e. (owned_two old named.one was e, lost cause old.two named.two old.one.state named.one none e))
+    (left_alone cause old.two named.two old.one.state named.one none)
 
 pub unnamed_of : (cause : Cause) (old new : AccessMapValue) (list : List ℕ) (named : Named) (g : Group)
     → IsTrue (has_one_owner old)
@@ -217,54 +204,52 @@ unnamed_of cause old new list named g was l h =
 
 -- ---- moves
 
-one_owns : (new : AccessMapValue) → new.one.state ≡ ActiveOptimized → is_optimized new.two.state ≡ false
-    → IsOkAnd (with_one_owner new) (λ m. owner_of m ≡ One)
-one_owns new one two = grind (arith, common_steps)
+-- a list that names this group as active/optimized: alone, or beside the other one in this state
+abbrev only : Group → Named
+only One = record { one = Some ActiveOptimized; two = None }
+only Two = record { one = None; two = Some ActiveOptimized }
 
-two_owns : (new : AccessMapValue) → new.two.state ≡ ActiveOptimized → is_optimized new.one.state ≡ false
-    → IsOkAnd (with_one_owner new) (λ m. owner_of m ≡ Two)
-two_owns new two one = grind (arith, common_steps)
+abbrev beside : Group → AccessState → Named
+beside One other = record { one = Some ActiveOptimized; two = Some other }
+beside Two other = record { one = Some other; two = Some ActiveOptimized }
 
-one_of_both : (new : AccessMapValue) (other : AccessState) → is_optimized other ≡ false → new.one.state ≡ ActiveOptimized
-    → new.two.state ≡ other → IsOkAnd (with_one_owner new) (λ m. (owner_of m ≡ One) × (m.two.state ≡ other))
-one_of_both new other way one two = grind (arith, common_steps)
+-- a group that is active/optimized owns the unit where the other is not
+owns : (new : AccessMapValue) (g : Group) → (group_access new g).state ≡ ActiveOptimized
+    → is_optimized (group_access new (other_group g)).state ≡ false → IsOkAnd (with_one_owner new) (λ m. owner_of m ≡ g)
+owns new One own other = grind (arith, common_steps)
+owns new Two own other = grind (arith, common_steps)
 
-two_of_both : (new : AccessMapValue) (other : AccessState) → is_optimized other ≡ false → new.one.state ≡ other
-    → new.two.state ≡ ActiveOptimized → IsOkAnd (with_one_owner new) (λ m. (owner_of m ≡ Two) × (m.one.state ≡ other))
-two_of_both new other way one two = grind (arith, common_steps)
+owns_beside : (new : AccessMapValue) (g : Group) (other : AccessState) → is_optimized other ≡ false
+    → (group_access new g).state ≡ ActiveOptimized → (group_access new (other_group g)).state ≡ other
+    → OwnsBeside (with_one_owner new) g other
+owns_beside new One other way own is = grind (arith, common_steps)
+owns_beside new Two other way own is = grind (arith, common_steps)
 
 -- the other of a group that becomes active/optimized is not
-given_way : (old : AccessMapValue) → IsTrue (has_one_owner old)
-    → is_optimized (next_state old.two.state None old.one.state (Some ActiveOptimized)) ≡ false
-given_way old was = grind (arith, common_steps, was)
+given_way : (own other : AccessState) → IsTrue (just_one_optimized own other)
+    → is_optimized (next_state other None own (Some ActiveOptimized)) ≡ false
+given_way own other was = grind (arith, common_steps, was)
 
-given_way_two : (old : AccessMapValue) → IsTrue (has_one_owner old)
-    → is_optimized (next_state old.one.state None old.two.state (Some ActiveOptimized)) ≡ false
-given_way_two old was = grind (arith, common_steps, was)
+either_way : (one two : AccessState) → IsTrue (just_one_optimized one two) → IsTrue (just_one_optimized two one)
+either_way one two was = grind (arith, common_steps, was)
 
-pub to_one : (cause : Cause) (old : AccessMapValue) → IsTrue (has_one_owner old)
-    → IsOkAnd (with_one_owner (map_after cause old (only_one (Some ActiveOptimized)))) (λ m. owner_of m ≡ One)
-to_one cause old was =
-    let other : AccessState = next_state old.two.state None old.one.state (Some ActiveOptimized) in
-    one_owns (map_after cause old (only_one (Some ActiveOptimized))) (altered_state cause old.one ActiveOptimized)
-    (ap is_optimized (altered_state cause old.two other) ∙ given_way old was)
-
-pub to_two : (cause : Cause) (old : AccessMapValue) → IsTrue (has_one_owner old)
-    → IsOkAnd (with_one_owner (map_after cause old (only_two (Some ActiveOptimized)))) (λ m. owner_of m ≡ Two)
-to_two cause old was =
-    let other : AccessState = next_state old.one.state None old.two.state (Some ActiveOptimized) in
-    two_owns (map_after cause old (only_two (Some ActiveOptimized))) (altered_state cause old.two ActiveOptimized)
-    (ap is_optimized (altered_state cause old.one other) ∙ given_way_two old was)
+pub moved_to : (cause : Cause) (old : AccessMapValue) (g : Group) → IsTrue (has_one_owner old)
+    → IsOkAnd (with_one_owner (map_after cause old (only g))) (λ m. owner_of m ≡ g)
+moved_to cause old One was =
+    owns (map_after cause old (only One)) One (altered_state cause old.one ActiveOptimized)
+    (ap is_optimized (altered_state cause old.two (next_state old.two.state None old.one.state (Some ActiveOptimized)))
+    ∙ given_way old.one.state old.two.state was)
+moved_to cause old Two was =
+    owns (map_after cause old (only Two)) Two (altered_state cause old.two ActiveOptimized)
+    (ap is_optimized (altered_state cause old.one (next_state old.one.state None old.two.state (Some ActiveOptimized)))
+    ∙ given_way old.two.state old.one.state (either_way old.one.state old.two.state was))
 
 -- a list that names both groups, one of them active/optimized and the other not, is taken
-pub both_to_one : (cause : Cause) (old : AccessMapValue) (other : AccessState) → is_optimized other ≡ false
-    → OwnsBeside (with_one_owner (map_after cause old (both_named ActiveOptimized other))) One other
-both_to_one cause old other way =
-    one_of_both (map_after cause old (both_named ActiveOptimized other)) other way
+pub moved_beside : (cause : Cause) (old : AccessMapValue) (g : Group) (other : AccessState) → is_optimized other ≡ false
+    → OwnsBeside (with_one_owner (map_after cause old (beside g other))) g other
+moved_beside cause old One other way =
+    owns_beside (map_after cause old (beside One other)) One other way
     (altered_state cause old.one ActiveOptimized) (altered_state cause old.two other)
-
-pub both_to_two : (cause : Cause) (old : AccessMapValue) (other : AccessState) → is_optimized other ≡ false
-    → OwnsBeside (with_one_owner (map_after cause old (both_named other ActiveOptimized))) Two other
-both_to_two cause old other way =
-    two_of_both (map_after cause old (both_named other ActiveOptimized)) other way
-    (altered_state cause old.one other) (altered_state cause old.two ActiveOptimized)
+moved_beside cause old Two other way =
+    owns_beside (map_after cause old (beside Two other)) Two other way
+    (altered_state cause old.two ActiveOptimized) (altered_state cause old.one other)
