@@ -125,13 +125,6 @@ impl Record {
         &self.registrants
     }
 
-    /// The reservation, if there is one.
-    pub fn reservation(&self) -> &Option<Reservation>
-        ensures { result.now ≡ self.now.reservation }
-    {
-        &self.reservation
-    }
-
     /// The record, borrowed.
     pub fn lasting(&self) -> Lasting<'_>
         ensures { result ≡ self.now }
