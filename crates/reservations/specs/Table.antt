@@ -1,9 +1,11 @@
 -- What a PERSISTENT RESERVE OUT does (SPC-4, 5.13 and 6.16): the table of what is asked of the registry, the nexus that asks and
 -- the request, in this order, and of what each row does then.
 use Rattle.std.specs.Prelude.{◌≡◌, ℕ, Bool, true, false, not, ◌&&◌, ◌||◌, nat_eq, nat_lt}
-use Rattle.std.specs.Prelude.{List, [], length, Option, Some, None, is_some, if◌then◌else◌}
+use Rattle.std.specs.Prelude.{List, [], ◌∷◌, length, Option, Some, None, is_some, if◌then◌else◌}
+use Rattle.std.specs.List.{list_any}
 use Rattle.std.specs.Option.{option_map}
 use Rattle.scsi_types.specs.Nexus.{Nexus}
+use Rattle.scsi_types.specs.Reservation.{out_code}
 use Rattle.scsi_types.specs.Sense.{insufficient_registration_resources, invalid_field_in_cdb, invalid_field_in_parameter_list}
 use Rattle.scsi_types.specs.Sense.{invalid_release_of_persistent_reservation, sense}
 use Rattle.scsi_types.specs.declared.sense.Sense.{Sense}
@@ -35,25 +37,17 @@ use Rattle.registrants.specs.Registry.{most_registrants, registered_by, without_
 abbrev pub names_type : PrOut → Bool
 names_type q = nat_eq q.scope 0 && is_some (type_of q.kind)
 
+-- the service action is one of these
+abbrev pub is_among : List PrOutAction → PrOutAction → Bool
+is_among actions action = list_any (λ (a : PrOutAction). nat_eq (out_code a) (out_code action)) actions
+
 -- the two service actions that register
 abbrev pub is_registering : PrOutAction → Bool
-is_registering Register = true
-is_registering Reserve = false
-is_registering Release = false
-is_registering Clear = false
-is_registering Preempt = false
-is_registering PreemptAndAbort = false
-is_registering RegisterAndIgnoreExistingKey = true
+is_registering action = is_among (Register ∷ RegisterAndIgnoreExistingKey ∷ []) action
 
 -- the service actions that PRGENERATION counts (SPC-4, 5.13.3): all but RESERVE and RELEASE
 abbrev pub is_counted : PrOutAction → Bool
-is_counted Register = true
-is_counted Reserve = false
-is_counted Release = false
-is_counted Clear = true
-is_counted Preempt = true
-is_counted PreemptAndAbort = true
-is_counted RegisterAndIgnoreExistingKey = true
+is_counted action = not (is_among (Reserve ∷ Release ∷ []) action)
 
 -- a RESERVE with a field that it may not have
 abbrev pub is_bad_reserve : PrOutAction → PrOut → Bool
