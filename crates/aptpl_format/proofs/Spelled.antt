@@ -5,6 +5,7 @@ use Rattle.std.proofs.Common.{length-drop, length-take}
 use Rattle.std.proofs.lemmas.List.{length-replicate, take_all, take_at, get_or-drop}
 use Rattle.byteorder.specs.Endian.{big_bytes, big_number}
 use Rattle.byteorder.specs.Numbers.{big_number-reads_back, big_from-lt}
+use Rattle.scsi_types.specs.Nexus.{longest_name}
 use Rattle.scsi_types.specs.declared.names.Group.{Group}
 use Rattle.scsi_types.specs.declared.names.Group.TheVariants.{One, Two}
 use Rattle.registrants.specs.Registry.{IsListed}
@@ -118,7 +119,7 @@ isid_read_whole entry isid is =
     is ∙ ap (big_number 6) (take_all (length entry - 10) (drop 10 entry) (omega (arith, length-drop 10 entry)))
 
 -- and the name has its length
-pub name_long : (entry name : List ℕ) (long : ℕ) → length entry ≡ 256 → long ≤ 223
+pub name_long : (entry name : List ℕ) (long : ℕ) → length entry ≡ 256 → long ≤ longest_name
     → name ≡ take (17 + long - 17) (drop 17 entry) → length name ≡ long
 name_long entry name long whole few is =
     ap length is ∙ (let e : length (take (17 + long - 17) (drop 17 entry)) ≡ long =

@@ -19,7 +19,7 @@ use crate::{FileVersion, OpenFault, Slot};
 use block_file::BLOCK_LENGTH;
 use byteorder::{BigEndian, ByteOrder};
 use registrants::{Nexus, Record, Registrant, Reservation, ReservationType};
-use scsi_types::Group;
+use scsi_types::{Group, LONGEST_NAME};
 use std::alloc::Global;
 use std::cmp::Ordering;
 
@@ -100,7 +100,7 @@ fn entry_in(entry: &[u8]) -> Option<Entry>
     if long == 0 {
         return None;
     }
-    if long > 223 {
+    if long > LONGEST_NAME {
         return None;
     }
     let key = BigEndian::read_u64(entry);

@@ -17,11 +17,11 @@ returns-then-long-eq0-clause-none c = λ e of is.
     ap (λ (b : List ℕ). slice_index b 16) is ∙ length_read e in
     omega (arith, long, of.listed.port.some, c.from-long.ensures, c.if-long-eq0.true)
 
-pub returns-then-long-gt223-clause-none : goal.returns-then-long-gt223-clause-none
-returns-then-long-gt223-clause-none c = λ e of is.
+pub returns-then-long-gt-LONGEST_NAME-clause-none : goal.returns-then-long-gt-LONGEST_NAME-clause-none
+returns-then-long-gt-LONGEST_NAME-clause-none c = λ e of is.
     let long : slice_index c.args.entry.now 16 ≡ length e.registrant.nexus.port.name =
     ap (λ (b : List ℕ). slice_index b 16) is ∙ length_read e in
-    omega (arith, long, of.listed.port.short, c.from-long.ensures, c.if-long-gt223.true)
+    omega (arith, long, of.listed.port.short, c.from-long.ensures, c.if-long-gt-LONGEST_NAME.true)
 
 pub returns-then-key-eq0-clause-none : goal.returns-then-key-eq0-clause-none
 returns-then-key-eq0-clause-none c = λ e of is.
@@ -34,11 +34,11 @@ pub named-nexus-requires : goal.named-nexus-requires
 named-nexus-requires c =
     let name : List ℕ = take (17 + c.from-long.result - 17) (drop 17 c.args.entry.now) in
     let long : length name ≡ c.from-long.result =
-    name_long c.args.entry.now name c.from-long.result c.requires c.if-long-gt223.false refl in
+    name_long c.args.entry.now name c.from-long.result c.requires c.if-long-gt-LONGEST_NAME.false refl in
     let below : (k : ℕ) → get_or c.args.entry.now k 0 < 256 = λ (k : ℕ). let h = c.type_inv.entry k in omega (arith, h) in
     record {
       some = omega (arith, long, c.if-long-eq0.false);
-      short = omega (arith, long, c.if-long-gt223.false);
+      short = omega (arith, long, c.if-long-gt-LONGEST_NAME.false);
       isid = isid_fits c.args.entry.now c.read_u48-isid.result c.requires below c.read_u48-isid.ensures;
     }
 
