@@ -6,11 +6,7 @@ use Rattle.std.specs.List.{find}
 use Rattle.std.specs.Option.{option_map}
 use Rattle.scsi_types.specs.Nexus.{Nexus}
 use Rattle.registrants.specs.declared.kind.ReservationType.{ReservationType}
-use Rattle.registrants.specs.declared.kind.ReservationType.TheVariants.{WriteExclusive, ExclusiveAccess}
-use Rattle.registrants.specs.declared.kind.ReservationType.TheVariants.{WriteExclusiveRegistrantsOnly}
-use Rattle.registrants.specs.declared.kind.ReservationType.TheVariants.{ExclusiveAccessRegistrantsOnly}
-use Rattle.registrants.specs.declared.kind.ReservationType.TheVariants.{WriteExclusiveAllRegistrants}
-use Rattle.registrants.specs.declared.kind.ReservationType.TheVariants.{ExclusiveAccessAllRegistrants}
+use Rattle.registrants.specs.declared.kind.ReservationType.TheVariants.{WriteExclusive}
 use Rattle.registrants.specs.declared.registrant.Registrant.{Registrant}
 use Rattle.registrants.specs.declared.registrant.Reservation.{Reservation}
 use Rattle.registrants.specs.Kind.{is_of_all_registrants, type_code, type_of}
@@ -109,11 +105,7 @@ holder_registered v xs n place group is =
 
 pub type_back : (k : ReservationType) → type_of (type_code k) ≡ Some k
 type_back WriteExclusive = refl
-type_back ExclusiveAccess = refl
-type_back WriteExclusiveRegistrantsOnly = refl
-type_back ExclusiveAccessRegistrantsOnly = refl
-type_back WriteExclusiveAllRegistrants = refl
-type_back ExclusiveAccessAllRegistrants = refl
+type_back other = refl
 
 same_kind : (a b : ReservationType) → type_code a ≡ type_code b → a ≡ b
 same_kind a b e = let f : Some a ≡ Some b = sym (type_back a) ∙ ap type_of e ∙ type_back b in cc
