@@ -1,6 +1,6 @@
 -- The bytes of a registration file, versions 1 and 2. Numbers are big-endian, and what is written is filled up with zeros.
 -- Block 0 is the root, which names a slot; a slot is 33 blocks, from block 1 or from block 34 on.
-use Rattle.std.specs.Prelude.{ℕ, ◌-◌, ◌*◌, Bool, true, false, ◌&&◌, nat_eq, if◌then◌else◌, List}
+use Rattle.std.specs.Prelude.{ℕ, ◌+◌, ◌-◌, ◌*◌, Bool, true, false, ◌&&◌, nat_eq, if◌then◌else◌, List}
 use Rattle.std.specs.Prelude.{[], ◌∷◌, ◌++◌, length, take, drop, replicate, Option, Some, None}
 use Rattle.std.specs.List.{flat_map, position}
 use Rattle.std.specs.Option.{unwrap_or}
@@ -63,8 +63,7 @@ slot_number First = 0
 slot_number Second = 1
 
 abbrev pub first_block : Slot → ℕ
-first_block First = 1
-first_block Second = 34
+first_block slot = 1 + slot_blocks * slot_number slot
 
 abbrev pub other_slot : Slot → Slot
 other_slot First = Second
