@@ -5,18 +5,18 @@ use Rattle.session_rules.specs.Words.{ℕ, List, [], length, Option, Some, None,
 use Rattle.session_rules.specs.Words.{AllByRecursion, Means, Command, CdbFault, Sense, max_data_segment_length, Initiator, Target, NopOut}
 use Rattle.session_rules.specs.Words.{ScsiCommand, TaskManagementRequest, LoginRequest, TextRequest, DataOut, LogoutRequest, TargetHeader}
 use Rattle.session_rules.specs.Words.{NopIn, ScsiResponse, TaskManagementResponse, LoginResponse, TextResponse, DataIn, LogoutResponse, R2t}
-use Rattle.session_rules.specs.Words.{Reject, R2tHeader, Numbers, End, Reinstated, LoggedOut, Lengths, TargetAnswer, Replied}
-use Rattle.session_rules.specs.Words.{Outside, Busy, Gone, ResetAnswer, Verdict, Accepted, Full, Ignored, Gap, Refused}
+use Rattle.session_rules.specs.Words.{Reject, R2tHeader, Numbers, End, Reinstated, LoggedOut, Lengths, TargetAnswer}
+use Rattle.session_rules.specs.Words.{Bool, ResetAnswer, Verdict, Accepted, Full, Ignored, Gap, Refused}
 use Rattle.session_rules.specs.{Setting.Setting, Window.wrap, Window.numbers_of, Tasks.tasks, Tasks.r2ts_of, Collecting.IsRightTask}
+use Rattle.session_rules.specs.Tasks.{finds_gone, is_gone, is_gone_by_reset}
 use Rattle.session_rules.specs.{Standing.Standing, Standing.standing, Standing.last_in_window, Verdict.IsJudged}
 use Rattle.session_rules.specs.{Transfer.expected_transfer, Transfer.sent_data, DataIn.data_ins, DataIn.Tiles, Nop.echo, Text.text_answer}
-use Rattle.session_rules.specs.{Logout.closes, Requests.IsRequestAnswered, Asking.Asking, Asking.began, Asking.lives, Asking.served}
-use Rattle.session_rules.specs.{Asking.reset, Asking.over, Turn.Incoming, Turn.pdu, Turn.faulty, Turn.Out, Turn.Turn, Turn.sent}
+use Rattle.session_rules.specs.{Logout.closes, Requests.IsRequestAnswered, Asking.Asking}
+use Rattle.session_rules.specs.{Turn.Incoming, Turn.pdu, Turn.faulty, Turn.Out, Turn.Turn, Turn.sent}
 use Rattle.session_rules.specs.Answered.{Answered, answered_in, IsCalled, outcome_data, needed}
 use Rattle.session_rules.specs.Response.{responses, sense_part, IsAnsweredAs, IsResidual, IsToldAs}
 use Rattle.session_rules.specs.Causes.{end_by_reject}
 use Rattle.session_rules.specs.declared.end.End.TheVariants as ends
-use Rattle.session_rules.specs.declared.target.ResetAnswer.TheVariants as resets
 
 -- the fact holds at each place of a list, of what stands before it and there
 abbrev pub AtEachOf : {A : Type 0} → (List A → A → Type 0) → List A → Type 0
@@ -143,24 +143,17 @@ abbrev pub answer_at : Setting → List Turn → Turn → Option Answered
 answer_at m before t = answered_in (standing m before) t.came t.verdict t.call t.sent
 
 -- the end that a turn calls for: a PDU that is rejected or out of order, a session that is gone, or a logout
+abbrev pub end_where_gone : Bool → Option End
+end_where_gone gone = if gone then Some Reinstated else None
+
 abbrev pub end_by : TargetAnswer → Option End
-end_by (Replied a) = None
-end_by (Outside a) = None
-end_by Busy = None
-end_by Gone = Some Reinstated
+end_by answer = end_where_gone (is_gone answer)
 
 abbrev pub end_by_reset : ResetAnswer → Option End
-end_by_reset resets.Done = None
-end_by_reset resets.Gone = Some Reinstated
-end_by_reset resets.Failed = None
+end_by_reset answer = end_where_gone (is_gone_by_reset answer)
 
 abbrev pub end_of_call : Option Asking → Option End
-end_of_call None = None
-end_of_call (Some (served unit asked bytes answer)) = end_by answer
-end_of_call (Some (reset unit answer)) = end_by_reset answer
-end_of_call (Some (began port kind answer)) = None
-end_of_call (Some (lives tsih port answer)) = None
-end_of_call (Some over) = None
+end_of_call call = end_where_gone (finds_gone call)
 
 abbrev pub end_of_accepted : Incoming → Option Asking → Option End
 end_of_accepted (pdu b (Initiator (NopOut p)) d) call = end_of_call call
