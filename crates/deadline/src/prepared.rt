@@ -220,14 +220,14 @@ impl<R: Wait + Clock + Drop, P: Preparer> Preparer for DeadlinedPreparer<R, P> {
     ghost has_flushed = { P.has_flushed };
 
     // What waits together is read together, however fast the disk is.
-    fn is_slow(&self) -> bool {
+    fn wants_hints(&self) -> bool {
         true
     }
 
     fn advise(&self, first: u64, blocks: u16) {
         let sort = if self.ahead.serves(blocks) {
             Sort::Read
-        } else if self.preparer.is_slow() {
+        } else if self.preparer.wants_hints() {
             Sort::Fetch
         } else {
             return;
@@ -243,7 +243,7 @@ impl<R: Wait + Clock + Drop, P: Preparer> Preparer for DeadlinedPreparer<R, P> {
     }
 
     fn advise_edges(&self, first: u64, blocks: u16) {
-        if has_edges(first, blocks) && self.preparer.is_slow() {
+        if has_edges(first, blocks) && self.preparer.wants_hints() {
             let sort = Sort::Edges;
             self.ahead.keep(
                 &self.rt,
@@ -259,7 +259,7 @@ impl<R: Wait + Clock + Drop, P: Preparer> Preparer for DeadlinedPreparer<R, P> {
     // To look costs the way to a thread that sleeps. So while the disk counts as fast, it is looked at only where the device has kept
     // somebody waiting.
     fn wants(&self, serial: u64) -> bool {
-        self.preparer.is_slow() || self.preparer.wants(serial) && self.watch.has_slept()
+        self.preparer.wants_hints() || self.preparer.wants(serial) && self.watch.has_slept()
     }
 
     fn fetch(&self, first: u64, blocks: u16) {

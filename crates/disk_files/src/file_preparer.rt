@@ -168,6 +168,11 @@ fn shared<R: Files<File = File>>(
 }
 
 impl<R: Clock + Wait + Drop, F: LastingFile> FilePreparer<R, F> {
+    // Whether the disk has been slow of late.
+    fn is_slow(&self) -> bool {
+        self.slow.load(Ordering::Relaxed) >= IN_A_ROW
+    }
+
     // A read was looked at.
     fn count(&self, is_slow: bool) {
         let slow = self.slow.load(Ordering::Relaxed);
@@ -342,8 +347,8 @@ impl<R: Clock + Wait + Drop, F: LastingFile> Preparer for FilePreparer<R, F> {
 
     ghost has_flushed = { λ disk. HasFlushed disk (F.lasts disk) };
 
-    fn is_slow(&self) -> bool {
-        self.slow.load(Ordering::Relaxed) >= IN_A_ROW
+    fn wants_hints(&self) -> bool {
+        self.is_slow()
     }
 
     fn advise(&self, first: u64, blocks: u16) {

@@ -49,8 +49,9 @@ pub trait Preparer: Drop {
     /// A flush of this disk is done. Nothing but a flush says so.
     ghost has_flushed: { Node → Type 0 };
 
-    /// Whether the disk has been slow of late: only then does it serve to tell of calls that are to come.
-    fn is_slow(&self) -> bool;
+    /// Whether it wants to be told of calls that are to come ([`advise`](Preparer::advise)): one with a deadline always does, one of a
+    /// file while its disk counts as slow.
+    fn wants_hints(&self) -> bool;
 
     /// These blocks will be read soon: has the disk fetch them, and waits for none.
     fn advise(&self, first: u64, blocks: u16);

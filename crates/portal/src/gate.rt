@@ -140,7 +140,7 @@ impl<P: Preparer, N: Disks> Gate for Prepared<P, N> {
     // As long as any disk is slow, commands of all units are told.
     fn wants_prefetch(&self) -> bool {
         for preparer in &self.of {
-            if preparer.is_slow() {
+            if preparer.wants_hints() {
                 return true;
             }
         }

@@ -30,7 +30,7 @@ impl<P: Preparer> Preparer for Reading<P> {
 
     ghost has_flushed = { λ disk. Unit {0} };
 
-    fn is_slow(&self) -> bool {
+    fn wants_hints(&self) -> bool {
         false
     }
 

@@ -35,7 +35,7 @@ impl Preparer for Counted {
 
     ghost has_flushed = { λ disk. Unit {0} };
 
-    fn is_slow(&self) -> bool {
+    fn wants_hints(&self) -> bool {
         false
     }
 
