@@ -54,7 +54,16 @@ pub fn compare_and_write<B: Blocks>(
         (StopsAmong B.moment B.left_since B.size (B.may_hold device.old) device.old device.new) }
 {
     let half = BLOCK_LENGTH * usize::from(blocks);
-    let Ok(found) = find_difference(device, lba, blocks, &bytes[..half]) else {
+    let given = &bytes[..half];
+    // Most compare one block: room for 32 need not be cleared for it.
+    let found = if blocks <= 1 {
+        let mut room = [0; BLOCK_LENGTH];
+        find_difference(device, lba, blocks, &mut room[..half], given)
+    } else {
+        let mut room = [0; BLOCK_LENGTH * MOST_COMPARED as usize];
+        find_difference(device, lba, blocks, &mut room[..half], given)
+    };
+    let Ok(found) = found else {
         return MediumEnd::ReadFailed;
     };
     match found {
@@ -63,42 +72,8 @@ pub fn compare_and_write<B: Blocks>(
     }
 }
 
-/// Compares a range with as many bytes: the offset of the first one that differs.
-fn find_difference<B: Blocks>(
-    device: &mut B,
-    lba: u32,
-    blocks: u16,
-    given: &[u8],
-) -> Result<Option<u32>, DeviceFailed>
-    requires few { blocks ≤ MOST_COMPARED }
-    requires range { lba + blocks ≤ B.size device.old }
-    requires given { length given.now ≡ BLOCK_LENGTH * blocks }
-    ensures size { B.size device.new ≡ B.size device.old }
-    ensures failures { Counts (B.failures device.old) (B.failures device.new) result }
-    ensures failed_reads { Counts (B.reads_failed device.old) (B.reads_failed device.new) result }
-    ensures failed_writes { B.writes_failed device.new ≡ B.writes_failed device.old }
-    ensures idle { blocks ≡ 0 → device.new ≡ device.old }
-    ensures offset { IfOk result (λ found. IfSome found (λ at. at < BLOCK_LENGTH * blocks)) }
-    ensures compared { IsTrue B.claims → IfOk result (λ found. MatchOption found
-        (range_bytes (B.contents device.old) lba blocks ≡ given.now)
-        (λ at. first_difference (range_bytes (B.contents device.old) lba blocks) given.now ≡ Some at)) }
-    ensures contents { IsTrue B.claims → B.contents device.new ≡ B.contents device.old }
-    ensures crash { IsTrue B.claims → NoMore (B.may_hold device.old) (B.may_hold device.new) }
-    ensures stop { IsTrue B.claims → IsTrue B.claims_moments
-        → StopsAmong B.moment B.left_since B.size (B.may_hold device.old) device.old device.new }
-{
-    // Most compare one block: room for 32 need not be cleared for it.
-    if blocks <= 1 {
-        let mut room = [0; BLOCK_LENGTH];
-        read_and_compare(device, lba, blocks, &mut room[..given.len()], given)
-    } else {
-        let mut room = [0; BLOCK_LENGTH * MOST_COMPARED as usize];
-        read_and_compare(device, lba, blocks, &mut room[..given.len()], given)
-    }
-}
-
 /// Reads a range into `room` and compares it with as many bytes: the offset of the first one that differs.
-fn read_and_compare<B: Blocks>(
+fn find_difference<B: Blocks>(
     device: &mut B,
     lba: u32,
     blocks: u16,
