@@ -8,6 +8,7 @@ use Rattle.scsi_types.specs.declared.command.CdbFault.{CdbFault}
 use Rattle.scsi_types.specs.declared.command.CdbFault.TheVariants.{UnknownOpcode, BadField}
 use Rattle.scsi_types.specs.declared.command.Op.{Op}
 use Rattle.scsi_types.specs.declared.command.Op.TheVariants as ops
+use Rattle.scsi_types.specs.declared.pages.PageControl.{PageControl}
 use Rattle.scsi_types.specs.Traits.{traits_of}
 
 abbrev pub kind_of : Command → Op
@@ -50,22 +51,37 @@ pub data ParameterList : Type 0 where
   ReserveList : ℕ → ParameterList
   GroupsList : ℕ → ParameterList
 
+-- what else than a range of blocks a command has in its CDB that it may be refused for: nothing, a parameter list, or which values of
+-- mode pages it asks for
+pub data Parameter : Type 0 where
+  NoParameter : Parameter
+  ListParameter : ParameterList → Parameter
+  PageParameter : PageControl → Parameter
+
+abbrev pub parameter_of : Command → Parameter
+parameter_of commands.TestUnitReady = NoParameter
+parameter_of (commands.RequestSense allocation) = NoParameter
+parameter_of (commands.Inquiry page allocation) = NoParameter
+parameter_of (commands.ModeSense header control page allocation) = PageParameter control
+parameter_of commands.ReadCapacity10 = NoParameter
+parameter_of (commands.ReadCapacity16 allocation) = NoParameter
+parameter_of (commands.Read lba blocks fua) = NoParameter
+parameter_of (commands.Write lba blocks fua) = NoParameter
+parameter_of (commands.CompareAndWrite lba blocks fua) = NoParameter
+parameter_of (commands.SynchronizeCache lba blocks) = NoParameter
+parameter_of (commands.PersistentReserveIn action allocation) = NoParameter
+parameter_of (commands.PersistentReserveOut action scope kind list_length) = ListParameter (ReserveList list_length)
+parameter_of (commands.ReportLuns select allocation) = NoParameter
+parameter_of (commands.ReportTargetPortGroups allocation) = NoParameter
+parameter_of (commands.SetTargetPortGroups list_length) = ListParameter (GroupsList list_length)
+
+abbrev pub list_in : Parameter → ParameterList
+list_in NoParameter = NoList
+list_in (ListParameter list) = list
+list_in (PageParameter control) = NoList
+
 abbrev pub list_of : Command → ParameterList
-list_of commands.TestUnitReady = NoList
-list_of (commands.RequestSense allocation) = NoList
-list_of (commands.Inquiry page allocation) = NoList
-list_of (commands.ModeSense header control page allocation) = NoList
-list_of commands.ReadCapacity10 = NoList
-list_of (commands.ReadCapacity16 allocation) = NoList
-list_of (commands.Read lba blocks fua) = NoList
-list_of (commands.Write lba blocks fua) = NoList
-list_of (commands.CompareAndWrite lba blocks fua) = NoList
-list_of (commands.SynchronizeCache lba blocks) = NoList
-list_of (commands.PersistentReserveIn action allocation) = NoList
-list_of (commands.PersistentReserveOut action scope kind list_length) = ReserveList list_length
-list_of (commands.ReportLuns select allocation) = NoList
-list_of (commands.ReportTargetPortGroups allocation) = NoList
-list_of (commands.SetTargetPortGroups list_length) = GroupsList list_length
+list_of command = list_in (parameter_of command)
 
 abbrev pub list_asked : Result Command CdbFault → ParameterList
 list_asked (Ok command) = list_of command

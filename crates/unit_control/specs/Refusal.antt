@@ -19,7 +19,6 @@ use Rattle.scsi_types.specs.Sense.{saving_parameters_not_supported, parameter_li
 use Rattle.scsi_types.specs.declared.attention.UnitAttention.{UnitAttention}
 use Rattle.scsi_types.specs.declared.command.Op.{Op}
 use Rattle.scsi_types.specs.declared.command.Command.{Command}
-use Rattle.scsi_types.specs.declared.command.Command.TheVariants as commands
 use Rattle.scsi_types.specs.declared.sense.Sense.{Sense}
 use Rattle.scsi_types.specs.declared.command.CdbFault.{CdbFault}
 use Rattle.scsi_types.specs.declared.command.CdbFault.TheVariants.{UnknownOpcode, BadField}
@@ -31,7 +30,7 @@ use Rattle.unit_control.specs.State.{ControlValue, tell}
 use Rattle.unit_control.specs.Sessions.{first_pending, sender_of}
 use Rattle.unit_control.specs.Groups.{set_by}
 use Rattle.unit_control.specs.Ops.{ParameterList, NoList, ReserveList, GroupsList, kind_asked, list_asked}
-use Rattle.unit_control.specs.Ops.{access_of, passes_attention}
+use Rattle.unit_control.specs.Ops.{Parameter, NoParameter, ListParameter, PageParameter, access_of, parameter_of, passes_attention}
 use Rattle.unit_control.specs.Limits.{reserve_list_length}
 use Rattle.unit_control.specs.Medium.{Range, is_too_long, range_of, work_asked, work_of}
 
@@ -119,25 +118,13 @@ is_saved Changeable = false
 is_saved Default = false
 is_saved Saved = true
 
-abbrev pub wants_saved : Command → Bool
-wants_saved commands.TestUnitReady = false
-wants_saved (commands.RequestSense allocation) = false
-wants_saved (commands.Inquiry page allocation) = false
-wants_saved (commands.ModeSense header control page allocation) = is_saved control
-wants_saved commands.ReadCapacity10 = false
-wants_saved (commands.ReadCapacity16 allocation) = false
-wants_saved (commands.Read lba blocks fua) = false
-wants_saved (commands.Write lba blocks fua) = false
-wants_saved (commands.CompareAndWrite lba blocks fua) = false
-wants_saved (commands.SynchronizeCache lba blocks) = false
-wants_saved (commands.PersistentReserveIn action allocation) = false
-wants_saved (commands.PersistentReserveOut action scope kind list_length) = false
-wants_saved (commands.ReportLuns select allocation) = false
-wants_saved (commands.ReportTargetPortGroups allocation) = false
-wants_saved (commands.SetTargetPortGroups list_length) = false
+abbrev pub saved_in : Parameter → Bool
+saved_in NoParameter = false
+saved_in (ListParameter list) = false
+saved_in (PageParameter control) = is_saved control
 
 abbrev pub asks_saved : Result Command CdbFault → Bool
-asks_saved (Ok command) = wants_saved command
+asks_saved (Ok command) = saved_in (parameter_of command)
 asks_saved (Err fault) = false
 
 abbrev pub saved_rule : Rule
