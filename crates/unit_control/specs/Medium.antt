@@ -1,7 +1,7 @@
 -- What a command is to the medium, and what that finds and leaves (SBC-3, READ, WRITE, COMPARE AND WRITE and SYNCHRONIZE
 -- CACHE commands).
 use Rattle.std.specs.Prelude.{◌≡◌, ◌⊎◌, ℕ, ◌+◌, ◌*◌, ◌<◌, ◌≤◌, Bool, false, true, IsTrue, nat_lt, List, [], length}
-use Rattle.std.specs.Prelude.{Option, Some, None, Result, Ok, Err}
+use Rattle.std.specs.Prelude.{Option, Some, None, is_some, Result, Ok, Err}
 use Rattle.identity.specs.Capacity.{block_length}
 use Rattle.block_file.specs.Cut.{cut}
 use Rattle.block_file.specs.Disk.{written, range_bytes, Between}
@@ -75,13 +75,9 @@ is_flushed_first (Writes r bytes flushed) = false
 is_flushed_first (Compares r bytes flushed) = false
 is_flushed_first (Flushes r) = false
 
--- a work that calls the device
+-- a work that calls the device: one of a range
 abbrev pub is_medium : Work → Bool
-is_medium Nothing = false
-is_medium (Reads r flushed) = true
-is_medium (Writes r bytes flushed) = true
-is_medium (Compares r bytes flushed) = true
-is_medium (Flushes r) = true
+is_medium work = is_some (range_of work)
 
 -- a work of more blocks than a command may have
 abbrev pub is_too_long : Work → Bool
