@@ -14,6 +14,9 @@ use Rattle.scsi_types.specs.declared.command.Command.{Command}
 use Rattle.scsi_types.specs.declared.command.CdbFault.{CdbFault}
 use Rattle.scsi_types.specs.declared.names.Group.TheVariants.{One, Two}
 use Rattle.unit_control.specs.declared.sessions.Attached.{Attached}
+use Rattle.unit_control.specs.declared.sessions.News.{News}
+use Rattle.unit_control.specs.declared.sessions.News.TheVariants.{Reset, AccessChange}
+use Rattle.unit_control.specs.Sessions.{of_others, tell_reset}
 use Rattle.unit_control.specs.Ops.{ParameterList, NoList, ReserveList, GroupsList, list_asked}
 use Rattle.unit_control.specs.State.{ControlValue, preferred}
 
@@ -59,8 +62,12 @@ tell_change a = record a { pending = established a.pending AccessStateChanged }
 
 -- it is told to every session but the one that asked for the change (SPC-4, 5.15.2.1)
 abbrev pub hear_change : Option ℕ → Attached → Attached
-hear_change None a = tell_change a
-hear_change (Some id) a = if nat_eq a.id id then a else tell_change a
+hear_change by_session a = of_others tell_change by_session a
+
+-- what each of the others is told
+abbrev pub tell_news : News → Attached → Attached
+tell_news Reset a = tell_reset a
+tell_news AccessChange a = tell_change a
 
 -- where the state of a group is another
 abbrev pub change_heard : Bool → Option ℕ → List Attached → List Attached

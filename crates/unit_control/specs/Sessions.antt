@@ -83,10 +83,18 @@ told sessions id = changed report_first sessions id
 abbrev pub ended : List Attached → ℕ → List Attached
 ended sessions id = filter (λ a. not (nat_eq a.id id)) sessions
 
--- The unit was reset by the session of this id: every other one is to be told so, and of nothing before it. The condition is that of a
--- power on, 29/00, which covers a reset too.
+-- a change of every session but the one of this id, where one asked for it
+abbrev pub of_others : (Attached → Attached) → Option ℕ → Attached → Attached
+of_others f None a = f a
+of_others f (Some id) a = if nat_eq a.id id then a else f a
+
+-- it is to be told of a reset, and of nothing before it: the condition is that of a power on, 29/00, which covers a reset too
+abbrev pub tell_reset : Attached → Attached
+tell_reset a = record a { pending = PowerOn ∷ [] }
+
+-- the unit was reset by the session of this id
 abbrev pub reset_established : ℕ → Attached → Attached
-reset_established id a = if nat_eq a.id id then a else record a { pending = PowerOn ∷ [] }
+reset_established id a = of_others tell_reset (Some id) a
 
 abbrev pub all_reset : List Attached → ℕ → List Attached
 all_reset sessions id = map (reset_established id) sessions

@@ -7,8 +7,8 @@ ghost use Rattle.unit_control.specs.State.{preferred};
 use crate::records::{LastSave, same_record};
 use crate::row::UnitRow;
 use crate::sessions::{
-    Attached, MOST_SESSIONS, Sender, SessionId, count_command_at, end, hear_all, hear_change_all,
-    place_of, replace, reset, staying, tell_at,
+    Attached, MOST_SESSIONS, News, Sender, SessionId, count_command_at, end, hear_all, place_of,
+    replace, staying, tell_at, tell_others,
 };
 use access_states::AccessMap;
 use aptpl_file::SaveFault;
@@ -193,7 +193,7 @@ impl Control {
         ensures err { OnErr result (self.new ≡ self.old) }
     {
         self.find(session)?;
-        reset(&mut self.sessions, session);
+        tell_others(&mut self.sessions, Some(session), News::Reset);
         self.count += 1;
         Ok(())
     }
@@ -389,7 +389,7 @@ impl Control {
         let change = self.access.change_to(&access);
         self.access = access;
         if change.changed[0] || change.changed[1] {
-            hear_change_all(&mut self.sessions, by);
+            tell_others(&mut self.sessions, by, News::AccessChange);
         }
     }
 

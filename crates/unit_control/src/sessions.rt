@@ -3,10 +3,10 @@ ghost use Rattle.std.specs.Prelude.{◌≡◌, ◌<◌, ◌++◌, ◌-◌, ◌^�
 ghost use Rattle.std.specs.Prelude.{MatchOption};
 ghost use Rattle.std.specs.Prelude.{vec_capacity};
 ghost use Rattle.unit_control.specs.Places.{IsChangedAt, IsPlaceOf};
-ghost use Rattle.unit_control.specs.Sessions.{all_reset, ended, reset_established, is_of, nexus_of, one_command_more};
+ghost use Rattle.unit_control.specs.Sessions.{ended, is_of, nexus_of, of_others, one_command_more};
 ghost use Rattle.unit_control.specs.Sessions.{session_of, report_first, without};
 ghost use Rattle.reservations.specs.Notice.{tellings};
-ghost use Rattle.unit_control.specs.Groups.{hear_change};
+ghost use Rattle.unit_control.specs.Groups.{tell_news};
 ghost use Rattle.unit_control.specs.Reserve.{all_heard, hear};
 
 use attentions::Pending;
@@ -77,41 +77,35 @@ pub fn end(sessions: &mut Vec<Attached>, id: SessionId)
     sessions.retain(|attached| attached.id != id);
 }
 
-/// Tells every session but that of an id, which asked for it, of a reset, and of nothing before it.
-pub fn reset(sessions: &mut Vec<Attached>, by: SessionId)
-    ensures items { sessions.new.items ≡ all_reset sessions.old.items by }
+/// What the others hear of a session, or of the array.
+#[derive(Clone, Copy)]
+pub enum News {
+    /// A reset: they are told of nothing before it.
+    Reset,
+    /// A change of access states, behind what they are to be told already.
+    AccessChange,
+}
+
+/// Tells every session but the one that asked for it.
+pub fn tell_others(sessions: &mut Vec<Attached>, by: Option<SessionId>, news: News)
+    ensures items { sessions.new.items ≡ map (of_others (tell_news news) by) sessions.old.items }
     ensures capacity { vec_capacity sessions.new ≡ vec_capacity sessions.old }
 {
     for attached in sessions.iter_mut() {
-        hear_reset(attached, by);
+        hear_news(attached, by, news);
     }
 }
 
-fn hear_reset(attached: &mut Attached, by: SessionId)
-    ensures { attached.new ≡ reset_established by attached.old }
-{
-    if attached.id != by {
-        attached.pending.replace_all(UnitAttention::PowerOn);
-    }
-}
-
-/// Tells every session but the one that asked for it of a change of access states, behind what it is to be told already.
-pub fn hear_change_all(sessions: &mut Vec<Attached>, by: Option<SessionId>)
-    ensures items { sessions.new.items ≡ map (hear_change by) sessions.old.items }
-    ensures capacity { vec_capacity sessions.new ≡ vec_capacity sessions.old }
-{
-    for attached in sessions.iter_mut() {
-        hear_change(attached, by);
-    }
-}
-
-fn hear_change(attached: &mut Attached, by: Option<SessionId>)
-    ensures { attached.new ≡ hear_change by attached.old }
+fn hear_news(attached: &mut Attached, by: Option<SessionId>, news: News)
+    ensures { attached.new ≡ of_others (tell_news news) by attached.old }
 {
     if by != Some(attached.id) {
-        attached
-            .pending
-            .establish(UnitAttention::AccessStateChanged);
+        match news {
+            News::Reset => attached.pending.replace_all(UnitAttention::PowerOn),
+            News::AccessChange => attached
+                .pending
+                .establish(UnitAttention::AccessStateChanged),
+        }
     }
 }
 
