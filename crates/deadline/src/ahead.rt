@@ -68,6 +68,17 @@ pub(crate) struct Hint {
     pub(crate) blocks: u16,
 }
 
+impl Hint {
+    /// That this will be done to these blocks.
+    pub(crate) fn of(sort: Sort, first: u64, blocks: u16) -> Hint {
+        Hint {
+            sort,
+            first,
+            blocks,
+        }
+    }
+}
+
 /// Whether a run has only a part of a page at one of its ends.
 pub(crate) fn has_edges(first: u64, blocks: u16) -> bool {
     first % PAGE != 0 || u64::from(blocks) % PAGE != 0

@@ -232,27 +232,13 @@ impl<R: Wait + Clock + Drop, P: Preparer> Preparer for DeadlinedPreparer<R, P> {
         } else {
             return;
         };
-        self.ahead.keep(
-            &self.rt,
-            Hint {
-                sort,
-                first,
-                blocks,
-            },
-        );
+        self.ahead.keep(&self.rt, Hint::of(sort, first, blocks));
     }
 
     fn advise_edges(&self, first: u64, blocks: u16) {
         if has_edges(first, blocks) && self.preparer.wants_hints() {
-            let sort = Sort::Edges;
-            self.ahead.keep(
-                &self.rt,
-                Hint {
-                    sort,
-                    first,
-                    blocks,
-                },
-            );
+            let hint = Hint::of(Sort::Edges, first, blocks);
+            self.ahead.keep(&self.rt, hint);
         }
     }
 
