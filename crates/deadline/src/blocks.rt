@@ -1,9 +1,10 @@
 //! A device whose calls have a deadline.
-ghost use Rattle.std.specs.Prelude.{◌≡◌, ◌<◌, ◌≤◌, ◌+◌, ◌^◌, true, [], false, min, length, List, ℕ, IfOk, IfSome, IsErr, IsTrue, OnOk, OnErr};
+ghost use Rattle.std.specs.Prelude.{◌≡◌, ◌<◌, ◌+◌, ◌^◌, true, [], false, min, length, List, ℕ, IfOk, IfSome, IsTrue, OnOk, OnErr};
 ghost use Rattle.std.proofs.Common.{arith};
 ghost use Rattle.block_file.specs.Cut.{IsRun};
-ghost use Rattle.block_file.specs.Failures.{Counts, last_count};
-ghost use Rattle.deadline.specs.Answers.{HasAnswered, HasFlushed, HasOpened, HasRead, HasWritten, HasWrittenSome, WereGiven};
+ghost use Rattle.block_file.specs.Failures.{last_count};
+ghost use Rattle.deadline.specs.Counted.{CountsRead, CountsWrite};
+ghost use Rattle.deadline.specs.Answers.{HasAnswered, HasFlushed, HasOpened, HasRead, HasWrittenSome, WereGiven};
 
 use crate::errand::{Errand, Served, Wanted};
 use crate::hatch::Asker;
@@ -236,10 +237,8 @@ impl<R: Wait + Clock + Drop, B: Blocks, O: Opener<B>> Blocks for Deadlined<R, B,
         requires { IsRun self.old.count first (length bytes.old) }
         ensures size { self.new.count ≡ self.old.count }
         ensures answered { OnOk result (HasRead B.claims B.contents first bytes.new) }
-        ensures failures { Counts (min (self.old.failed_reads + self.old.failed_writes) last_count)
-            (min (self.new.failed_reads + self.new.failed_writes) last_count) result }
-        ensures failed_reads { Counts (min self.old.failed_reads last_count) (min self.new.failed_reads last_count) result }
-        ensures failed_writes { self.new.failed_writes ≡ self.old.failed_writes }
+        ensures counted { CountsRead self.old.failed_reads self.old.failed_writes self.new.failed_reads self.new.failed_writes
+            result }
         ensures written { self.new.writes ≡ self.old.writes }
         ensures opened { (self.new.opened ≡ self.old.opened) × (self.new.node ≡ self.old.node) }
     {
@@ -254,10 +253,8 @@ impl<R: Wait + Clock + Drop, B: Blocks, O: Opener<B>> Blocks for Deadlined<R, B,
         ensures many { IfOk result (λ blocks. length blocks.items ≡ length memory.bytes.items) }
         ensures answered { IfOk result (λ blocks.
             WereGiven B.claims B.contents self.old.node first self.new.writes blocks.items) }
-        ensures failures { Counts (min (self.old.failed_reads + self.old.failed_writes) last_count)
-            (min (self.new.failed_reads + self.new.failed_writes) last_count) result }
-        ensures failed_reads { Counts (min self.old.failed_reads last_count) (min self.new.failed_reads last_count) result }
-        ensures failed_writes { self.new.failed_writes ≡ self.old.failed_writes }
+        ensures counted { CountsRead self.old.failed_reads self.old.failed_writes self.new.failed_reads self.new.failed_writes
+            result }
         ensures written { self.new.writes ≡ self.old.writes }
         ensures opened { (self.new.opened ≡ self.old.opened) × (self.new.node ≡ self.old.node) }
     {
@@ -280,10 +277,8 @@ impl<R: Wait + Clock + Drop, B: Blocks, O: Opener<B>> Blocks for Deadlined<R, B,
         requires { IsRun self.old.count first (length bytes.now) }
         ensures size { self.new.count ≡ self.old.count }
         ensures answered { OnOk result (HasWrittenSome B.claims B.contents first (length bytes.now)) }
-        ensures failures { Counts (min (self.old.failed_reads + self.old.failed_writes) last_count)
-            (min (self.new.failed_reads + self.new.failed_writes) last_count) result }
-        ensures failed_reads { self.new.failed_reads ≡ self.old.failed_reads }
-        ensures failed_writes { Counts (min self.old.failed_writes last_count) (min self.new.failed_writes last_count) result }
+        ensures counted { CountsWrite self.old.failed_reads self.old.failed_writes self.new.failed_reads self.new.failed_writes
+            result }
         ensures written { self.new.writes ≡ min (self.old.writes + 1) last_count }
         ensures opened { (self.new.opened ≡ self.old.opened) × (self.new.node ≡ self.old.node) }
     {
@@ -297,10 +292,8 @@ impl<R: Wait + Clock + Drop, B: Blocks, O: Opener<B>> Blocks for Deadlined<R, B,
     fn flush(&mut self) -> Result<(), DeviceFailed>
         ensures size { self.new.count ≡ self.old.count }
         ensures answered { OnOk result (HasFlushed B.claims B.contents B.may_hold) }
-        ensures failures { Counts (min (self.old.failed_reads + self.old.failed_writes) last_count)
-            (min (self.new.failed_reads + self.new.failed_writes) last_count) result }
-        ensures failed_reads { self.new.failed_reads ≡ self.old.failed_reads }
-        ensures failed_writes { Counts (min self.old.failed_writes last_count) (min self.new.failed_writes last_count) result }
+        ensures counted { CountsWrite self.old.failed_reads self.old.failed_writes self.new.failed_reads self.new.failed_writes
+            result }
         ensures written { self.new.writes ≡ self.old.writes }
         ensures opened { (self.new.opened ≡ self.old.opened) × (self.new.node ≡ self.old.node) }
     {
