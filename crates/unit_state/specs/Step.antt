@@ -1,17 +1,18 @@
 -- What each end of a step tells.
-use Rattle.std.specs.Prelude.{◌≡◌, ◌≢◌, ℕ, Bool, true, false, IsTrue, List, Result, Ok, Err, Option, Some, None}
+use Rattle.std.specs.Prelude.{◌≡◌, ◌≢◌, ℕ, Bool, true, false, IsTrue, List, Result, Ok, Err, Option, Some, None, is_some}
 use Rattle.access_states.specs.AccessMap.{owner_of}
 use Rattle.scsi_types.specs.ReplyValue.{ReplyValue}
 use Rattle.scsi_types.specs.declared.names.Group.{Group}
 use Rattle.scsi_types.specs.declared.command.Command.{Command as ScsiCommand}
-use Rattle.scsi_types.specs.declared.command.Command.TheVariants as commands
+use Rattle.scsi_types.specs.declared.command.Op.{Op}
+use Rattle.scsi_types.specs.declared.command.Op.TheVariants as ops
 use Rattle.scsi_types.specs.declared.command.CdbFault.{CdbFault}
 use Rattle.unit_control.specs.declared.refusal.Refusal.{Refusal}
 use Rattle.unit_control.specs.State.{ControlValue, UnitState}
 use Rattle.unit_control.specs.Choice.{choice_of}
 use Rattle.unit_control.specs.Groups.{is_opening}
 use Rattle.unit_control.specs.Medium.{is_medium, work_asked}
-use Rattle.unit_control.specs.Ops.{ParameterList, NoList, ReserveList, GroupsList, list_asked}
+use Rattle.unit_control.specs.Ops.{ParameterList, NoList, ReserveList, GroupsList, kind_of, list_asked}
 use Rattle.unit_control.specs.Refusal.{Request, refusal}
 use Rattle.unit_control.specs.Entry.{Entry, Command, IsNext, IsPossible, IsReplyTo, control_after, blocks_after}
 use Rattle.unit_state.specs.declared.unit.StepEnd.{StepEnd}
@@ -38,41 +39,42 @@ IsRouted c session serial by (Moved owner) = IsNext c session serial × (by ≢ 
     × (owner ≡ owner_of c.access)
 IsRouted c session serial by NoMemory = IsNext c session serial × (by ≡ owner_of c.access)
 
--- a command that asks what the unit is, who is registered with it, or what state each group is in
+-- the data of a reply: sense data, the blocks of a READ, or what the unit is, who is registered with it, or what state each group is in
+pub data ReplyData : Type 0 where
+  SenseData : ReplyData
+  ReadData : ReplyData
+  Description : ReplyData
+
+-- which of them a kind of command asks for
+abbrev pub data_of : Op → Option ReplyData
+data_of ops.TestUnitReady = None
+data_of ops.RequestSense = Some SenseData
+data_of ops.Inquiry = Some Description
+data_of ops.ModeSense = Some Description
+data_of ops.ReadCapacity = Some Description
+data_of ops.Read = Some ReadData
+data_of ops.Write = None
+data_of ops.CompareAndWrite = None
+data_of ops.SynchronizeCache = None
+data_of ops.PersistentReserveIn = Some Description
+data_of ops.PersistentReserveOut = None
+data_of ops.ReportLuns = Some Description
+data_of ops.ReportTargetPortGroups = Some Description
+data_of ops.SetTargetPortGroups = None
+
+abbrev pub is_description : Option ReplyData → Bool
+is_description None = false
+is_description (Some SenseData) = false
+is_description (Some ReadData) = false
+is_description (Some Description) = true
+
+-- a command that asks for such a description
 abbrev pub is_describing : ScsiCommand → Bool
-is_describing (commands.Inquiry page allocation) = true
-is_describing (commands.ModeSense header control page allocation) = true
-is_describing (commands.ReportLuns select allocation) = true
-is_describing commands.ReadCapacity10 = true
-is_describing (commands.ReadCapacity16 allocation) = true
-is_describing (commands.PersistentReserveIn action allocation) = true
-is_describing (commands.ReportTargetPortGroups allocation) = true
-is_describing commands.TestUnitReady = false
-is_describing (commands.RequestSense allocation) = false
-is_describing (commands.Read lba blocks fua) = false
-is_describing (commands.Write lba blocks fua) = false
-is_describing (commands.CompareAndWrite lba blocks fua) = false
-is_describing (commands.SynchronizeCache lba blocks) = false
-is_describing (commands.PersistentReserveOut action scope kind list_length) = false
-is_describing (commands.SetTargetPortGroups list_length) = false
+is_describing command = is_description (data_of (kind_of command))
 
 -- a command takes memory for the data of its reply, and none for anything else: nothing that fences can lack it
 abbrev pub takes_memory : ScsiCommand → Bool
-takes_memory commands.TestUnitReady = false
-takes_memory (commands.RequestSense allocation) = true
-takes_memory (commands.Inquiry page allocation) = true
-takes_memory (commands.ModeSense header control page allocation) = true
-takes_memory commands.ReadCapacity10 = true
-takes_memory (commands.ReadCapacity16 allocation) = true
-takes_memory (commands.Read lba blocks fua) = true
-takes_memory (commands.Write lba blocks fua) = false
-takes_memory (commands.CompareAndWrite lba blocks fua) = false
-takes_memory (commands.SynchronizeCache lba blocks) = false
-takes_memory (commands.PersistentReserveIn action allocation) = true
-takes_memory (commands.PersistentReserveOut action scope kind list_length) = false
-takes_memory (commands.ReportLuns select allocation) = true
-takes_memory (commands.ReportTargetPortGroups allocation) = true
-takes_memory (commands.SetTargetPortGroups list_length) = false
+takes_memory command = is_some (data_of (kind_of command))
 
 abbrev pub MayTake : Result ScsiCommand CdbFault → Type 0
 MayTake (Ok command) = IsTrue (takes_memory command)
