@@ -2,7 +2,7 @@
 //! The thread then reads the blocks of the READs that wait behind its own, when it has given the answer to that one.
 ghost use Rattle.std.specs.Prelude.{◌≡◌, length};
 
-use disk_preparer::{Beside, BlockMemory};
+use disk_preparer::{Beside, BlockMemory, PAGE_BLOCKS};
 use std::alloc::{AllocError, Global};
 use std::hint::spin_loop;
 use std::mem;
@@ -11,9 +11,6 @@ use std::sync::{Mutex, Wait};
 
 /// So much is kept at most until a thread is asked; what comes then is not told.
 const MOST: usize = 256;
-
-/// The system keeps pages of so many blocks in memory.
-const PAGE: u64 = 8;
 
 /// So many runs that were read ahead are kept, each of so many bytes at most; and so many longer ones, of so many blocks.
 const PLACES: usize = 256;
@@ -81,7 +78,7 @@ impl Hint {
 
 /// Whether a run has only a part of a page at one of its ends.
 pub(crate) fn has_edges(first: u64, blocks: u16) -> bool {
-    first % PAGE != 0 || u64::from(blocks) % PAGE != 0
+    first % PAGE_BLOCKS != 0 || u64::from(blocks) % PAGE_BLOCKS != 0
 }
 
 /// What all share that fetch blocks of a disk.

@@ -12,7 +12,7 @@ use crate::file_log::FileLog;
 use crate::flushes::{FlushFault, Flushes, LastingFile};
 use crate::system::SystemFile;
 use block_file::BLOCK_LENGTH;
-use disk_preparer::{Beside, BlockMemory, Node, Preparer};
+use disk_preparer::{Beside, BlockMemory, Node, PAGE_BLOCKS, Preparer};
 use event_log::Call;
 use libc::{POSIX_FADV_WILLNEED, posix_fadvise};
 use std::alloc::Global;
@@ -31,9 +31,6 @@ const LEAST: usize = 512;
 const FEW: usize = 4096;
 
 const MOST: usize = 16384;
-
-/// The system keeps pages of so many blocks in memory.
-const PAGE: u64 = 8;
 
 /// A read that takes so many microseconds came from the disk, and not from the memory of the system; one of many bytes may take
 /// one more for each so many of them.
@@ -302,13 +299,13 @@ fn place_of(first: u64, blocks: u16) -> Option<(u64, usize)> {
 fn edges_of(first: u64, blocks: u16) -> (Option<u64>, Option<u64>) {
     let behind = first.saturating_add(u64::from(blocks));
     let last = behind.saturating_sub(1);
-    let head = if blocks > 0 && first % PAGE != 0 {
+    let head = if blocks > 0 && first % PAGE_BLOCKS != 0 {
         Some(first)
     } else {
         None
     };
-    let is_page_of_head = head.is_some() && first / PAGE == last / PAGE;
-    let tail = if blocks > 0 && behind % PAGE != 0 && !is_page_of_head {
+    let is_page_of_head = head.is_some() && first / PAGE_BLOCKS == last / PAGE_BLOCKS;
+    let tail = if blocks > 0 && behind % PAGE_BLOCKS != 0 && !is_page_of_head {
         Some(last)
     } else {
         None
@@ -377,7 +374,7 @@ impl<R: Clock + Wait + Drop, F: LastingFile> Preparer for FilePreparer<R, F> {
     // A session that is alone has serials one behind the other.
     fn touch(&self, serial: u64, first: u64, blocks: u16) {
         let before = self.last.swap(serial, Ordering::Relaxed);
-        if before.wrapping_add(1) == serial || u64::from(blocks) > PAGE {
+        if before.wrapping_add(1) == serial || u64::from(blocks) > PAGE_BLOCKS {
             return;
         }
         if let (Some(file), Some((at, length))) = (&self.file, place_of(first, blocks)) {

@@ -13,6 +13,9 @@ mod memory;
 
 pub use memory::{Beside, BlockMemory};
 
+/// The system keeps pages of so many blocks of 512 bytes in memory.
+pub const PAGE_BLOCKS: u64 = 8;
+
 /// What a file is by, whatever its names: the number of its file system, and its own there.
 #[derive(Clone, Copy, PartialEq, Eq)]
 pub struct Node {
