@@ -1,5 +1,5 @@
 -- The place of a session among those that are attached.
-use Rattle.std.proofs.Common.{◌≡◌, ◌≢◌, ⊎_elim, ℕ, zero, suc, ◌+◌, ◌<◌, ◌≤◌, Bool, true, false, not, List, []}
+use Rattle.std.proofs.Common.{◌≡◌, ◌≢◌, ⊎_elim, ℕ, zero, suc, ◌+◌, ◌<◌, ◌≤◌, true, false, not, List, []}
 use Rattle.std.proofs.Common.{◌∷◌, ◌++◌, length, length-set, get_or, set, take, drop, map, refl, sym, ◌∙◌, ap}
 use Rattle.std.proofs.Common.{arith, add-one, Some, None, Option, IfSome, IsSome, All, nat_eq, eq-eqb}
 use Rattle.std.proofs.Common.{slice_get}
@@ -7,16 +7,15 @@ use Rattle.std.specs.Option.{option_map}
 use Rattle.std.proofs.lemmas.Bool.Decides.{eqb_tells}
 use Rattle.std.proofs.lemmas.Grind.{common_steps}
 use Rattle.std.proofs.lemmas.List.{take_more, set-set, take-set, take-map, get_or-map, length-map}
-use Rattle.std.proofs.lemmas.Option.{get_or_from_slice_get, slice_get-get_or}
+use Rattle.std.proofs.lemmas.Option.{get_or_from_slice_get}
 use Rattle.std.proofs.lemmas.List.Elements.{All-filter, All-map, All-push}
 use Rattle.std.proofs.lemmas.List.Filters.{length-filter_both}
 use Rattle.scsi_types.specs.Nexus.{Nexus}
 use Rattle.unit_control.specs.declared.sessions.Attached.{Attached}
 use Rattle.reservations.specs.Notice.{Told}
-use Rattle.unit_control.specs.Sessions.{HasCountedSerial, is_of, nexus_in, nexus_of, sender_of, session_of, changed, ended}
+use Rattle.unit_control.specs.Sessions.{HasCountedSerial, is_of, session_of, changed, ended}
 use Rattle.unit_control.specs.Sessions.{reset_established, all_reset, without}
-use Rattle.unit_control.proofs.GroupsLaws.{change_keeps}
-use Rattle.unit_control.specs.Groups.{change_heard, hear_change}
+use Rattle.unit_control.specs.Groups.{hear_change}
 use Rattle.unit_control.specs.Reserve.{all_heard, hear}
 use Rattle.unit_control.specs.Places.{IsChangedAt, IsPlaceOf}
 

@@ -1,6 +1,6 @@
 -- REPORT and SET TARGET PORT GROUPS and moves as a unit does them (SPC-4, 5.15.2, 6.37 and 6.45): what a parameter list
 -- makes of the unit, when its blocks are opened for another controller, and who hears of it.
-use Rattle.std.specs.Prelude.{ℕ, Bool, false, nat_eq, ◌||◌, if◌then◌else◌, List, map, take, Option, Some, None, is_some, Result, Ok, Err}
+use Rattle.std.specs.Prelude.{ℕ, Bool, false, ◌||◌, if◌then◌else◌, List, map, take, Option, is_some, Result, Ok, Err}
 use Rattle.access_states.specs.AccessMap.{AccessMapValue}
 use Rattle.access_states.specs.Change.{access_after, change_between, is_changed}
 use Rattle.access_states.specs.Report.{report_bytes}

@@ -1,5 +1,5 @@
 -- The kind of a command, also of one with a bad field, and what the kind alone decides.
-use Rattle.std.specs.Prelude.{ℕ, Bool, true, false, Option, Some, None, Result, Ok, Err}
+use Rattle.std.specs.Prelude.{ℕ, Bool, false, Option, Some, None, Result, Ok, Err}
 use Rattle.scsi_types.specs.declared.traits.Access.{Access}
 use Rattle.scsi_types.specs.declared.traits.Access.TheVariants.{Other}
 use Rattle.scsi_types.specs.declared.command.Command.{Command}

@@ -1,5 +1,5 @@
 //! All of a unit but its devices.
-ghost use Rattle.std.specs.Prelude.{◌≡◌, ◌+◌, ◌<◌, ◌≤◌, ◌↔◌, length, [], ◌∷◌, true, false, IfOk};
+ghost use Rattle.std.specs.Prelude.{◌≡◌, ◌<◌, ◌≤◌, ◌↔◌, length, [], ◌∷◌, true, false, IfOk};
 ghost use Rattle.std.specs.Prelude.{OnErr, IsErr, IsFalse, IsTrue};
 ghost use Rattle.unit_control.specs.Places.{IsPlaceOf};
 ghost use Rattle.unit_control.specs.State.{preferred};
@@ -99,7 +99,6 @@ impl Model for Control {
 }
 
 impl Control {
-    ghost use Rattle.scsi_types.specs.Nexus.{Nexus};
     ghost use Rattle.unit_control.specs.State.{opening_control, tell};
     ghost use Rattle.unit_control.specs.Entry.{Attach, Detach, Reset, HasRoom, IsAttached, control_after};
     ghost use Rattle.unit_control.specs.Entry.{count_command, count_one};

@@ -1,7 +1,7 @@
 -- What a restart finds.
-use Rattle.std.proofs.Common.{◌≡◌, ℕ, List, ◌∷◌, [], ⊎_elim, ◌++◌, arith, sym, subst}
+use Rattle.std.proofs.Common.{◌≡◌, ℕ, List, ◌∷◌, [], ⊎_elim, arith, subst}
 use Rattle.std.specs.Prelude.{Contains}
-use Rattle.std.proofs.lemmas.List.Elements.{All-contains_itself, Contains-append_left, Contains-append_right}
+use Rattle.std.proofs.lemmas.List.Elements.{All-contains_itself, Contains-append_right}
 use Rattle.aptpl_file.specs.Holds.{Holds, HoldsOneOf}
 use Rattle.registrants.specs.Registry.{RecordValue}
 

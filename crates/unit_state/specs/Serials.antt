@@ -1,5 +1,5 @@
 -- The serials of a history: what its length and its commands say of the sessions that are attached behind it.
-use Rattle.std.specs.Prelude.{◌≡◌, ℕ, ◌+◌, ◌<◌, ◌≤◌, Bool, false, nat_eq, List, [], ◌∷◌, length, Some}
+use Rattle.std.specs.Prelude.{◌≡◌, ℕ, ◌+◌, ◌<◌, ◌≤◌, Bool, false, nat_eq, List, [], length, Some}
 use Rattle.std.specs.List.{count_by}
 use Rattle.unit_control.specs.State.{ControlValue}
 use Rattle.unit_control.specs.Sessions.{next_of}

@@ -69,7 +69,6 @@ impl<B: Blocks, F: Blocks, O: Opener<B>> Model for Unit<B, F, O> {
 }
 
 impl<B: Blocks, F: Blocks, O: Opener<B>> Unit<B, F, O> {
-    ghost use Rattle.scsi_types.specs.Nexus.{Nexus};
     ghost use Rattle.unit_control.specs.State.{UnitValue, opening_control, state_of, failures_of};
     ghost use Rattle.access_states.specs.AccessMap.{owner_of};
     ghost use Rattle.unit_control.specs.Choice.{IsFine, choice_of};

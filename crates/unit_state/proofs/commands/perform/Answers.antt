@@ -1,4 +1,4 @@
-use Rattle.std.proofs.Common.{◌≡◌, ◌∙◌, ap, refl, inl, inr}
+use Rattle.std.proofs.Common.{◌∙◌, ap, refl, inl, inr}
 use Rattle.std.specs.Prelude.{IsTrue}
 use Rattle.unit_state.specs.Step.{is_describing}
 use Rattle.scsi_types.specs.ReplyValue.{good}
