@@ -98,6 +98,15 @@ fn entry(name: &'static [u8], rule: Rule, default: Value) -> KeyRule
     }
 }
 
+// The row of a number of which the lesser of both offers is agreed on.
+fn least(name: &'static [u8], limits: Limits, default: u32) -> KeyRule
+    ensures name { result.name.now ≡ name.entry.now }
+    ensures rule { result.rule ≡ Rule.Least limits }
+    ensures default { result.default ≡ Value.Number default }
+{
+    entry(name, Rule::Least(limits), Value::Number(default))
+}
+
 fn limits(low: u32, high: u32, own: u32) -> Limits
     ensures { result ≡ limits low high own }
 {
@@ -117,48 +126,24 @@ impl Key {
             Key::DataDigest => entry(b"DataDigest", Rule::Listed(Word::Unused), UNUSED),
             Key::InitialR2T => entry(b"InitialR2T", Rule::Either(true), YES),
             Key::ImmediateData => entry(b"ImmediateData", Rule::Both(true), YES),
-            Key::MaxBurstLength => entry(
-                b"MaxBurstLength",
-                Rule::Least(limits(512, LONGEST, 262144)),
-                Value::Number(262144),
-            ),
-            Key::FirstBurstLength => entry(
-                b"FirstBurstLength",
-                Rule::Least(limits(512, LONGEST, 65536)),
-                Value::Number(65536),
-            ),
+            Key::MaxBurstLength => least(b"MaxBurstLength", limits(512, LONGEST, 262144), 262144),
+            Key::FirstBurstLength => least(b"FirstBurstLength", limits(512, LONGEST, 65536), 65536),
             Key::MaxRecvDataSegmentLength => entry(
                 b"MaxRecvDataSegmentLength",
                 Rule::Declared(limits(512, LONGEST, DATA_SEGMENT_LENGTH)),
                 Value::Number(8192),
             ),
-            Key::MaxConnections => entry(
-                b"MaxConnections",
-                Rule::Least(limits(1, 65535, 1)),
-                Value::Number(1),
-            ),
-            Key::MaxOutstandingR2T => entry(
-                b"MaxOutstandingR2T",
-                Rule::Least(limits(1, 65535, 1)),
-                Value::Number(1),
-            ),
+            Key::MaxConnections => least(b"MaxConnections", limits(1, 65535, 1), 1),
+            Key::MaxOutstandingR2T => least(b"MaxOutstandingR2T", limits(1, 65535, 1), 1),
             Key::DefaultTime2Wait => entry(
                 b"DefaultTime2Wait",
                 Rule::Greatest(limits(0, 3600, 2)),
                 Value::Number(2),
             ),
-            Key::DefaultTime2Retain => entry(
-                b"DefaultTime2Retain",
-                Rule::Least(limits(0, 3600, 0)),
-                Value::Number(20),
-            ),
+            Key::DefaultTime2Retain => least(b"DefaultTime2Retain", limits(0, 3600, 0), 20),
             Key::DataPDUInOrder => entry(b"DataPDUInOrder", Rule::Either(true), YES),
             Key::DataSequenceInOrder => entry(b"DataSequenceInOrder", Rule::Either(true), YES),
-            Key::ErrorRecoveryLevel => entry(
-                b"ErrorRecoveryLevel",
-                Rule::Least(limits(0, 2, 0)),
-                Value::Number(0),
-            ),
+            Key::ErrorRecoveryLevel => least(b"ErrorRecoveryLevel", limits(0, 2, 0), 0),
             Key::TaskReporting => entry(
                 b"TaskReporting",
                 Rule::Listed(Word::Rfc3720),
