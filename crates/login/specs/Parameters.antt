@@ -5,21 +5,17 @@ use Rattle.login.specs.Text.{Pair}
 use Rattle.login.specs.Table.{in_force}
 use Rattle.login.specs.declared.key.Key.TheVariants as Of
 use Rattle.login.specs.declared.value.Value.{Value}
-use Rattle.login.specs.declared.value.Value.TheVariants.{Number, Flag, Word, Unset}
+use Rattle.login.specs.declared.value.Value.TheVariants.{Number, Flag}
 use Rattle.login.specs.declared.parameters.Parameters.{Parameters}
 
 -- the number of a value, 0 where it is none; and its flag
 abbrev pub number_of : Value → ℕ
 number_of (Number n) = n
-number_of (Flag b) = 0
-number_of (Word word) = 0
-number_of Unset = 0
+number_of _ = 0
 
 abbrev pub flag_of : Value → Bool
-flag_of (Number n) = false
 flag_of (Flag b) = b
-flag_of (Word word) = false
-flag_of Unset = false
+flag_of _ = false
 
 unfoldable pub parameters_of : List Pair → Parameters
 parameters_of ps = record {
