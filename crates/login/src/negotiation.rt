@@ -1,8 +1,8 @@
 //! The negotiation of a login, in memory that is taken before its first request.
-ghost use Rattle.std.specs.Prelude.{◌≡◌, ◌+◌, ◌++◌, ◌≤◌, ◌<◌, ℕ, List, IfOk, is_none, true, false};
+ghost use Rattle.std.specs.Prelude.{◌≡◌, ◌+◌, ◌++◌, ◌≤◌, ◌<◌, ◌||◌, ℕ, List, IfOk, is_none, not, true, false};
 ghost use Rattle.std.specs.Prelude.{length, vec_capacity, Some, None};
 ghost use Rattle.login.specs.Request.{next_stage, kind_after, kind_in, initiator_of};
-ghost use Rattle.login.specs.Text.{pairs};
+ghost use Rattle.login.specs.Text.{is_text, pairs};
 ghost use Rattle.login.specs.Parameters.{parameters_of};
 ghost use Rattle.login.specs.Progress.{Progress, beginning};
 
@@ -82,7 +82,7 @@ impl Model for Negotiation {
 }
 
 impl Negotiation {
-    ghost use Rattle.login.specs.Refusal.{refusal_in, first_refusal, rules_of_first, rules_of_later, rules_of_names, is_too_long};
+    ghost use Rattle.login.specs.Refusal.{refusal_in, first_refusal, rules_of_first, rules_of_later, rules_of_names, has_repeated, is_too_long};
     ghost use Rattle.login.specs.Request.{answer_to, answer_by, after, passed, told};
     ghost use Rattle.login.specs.Request.{response, group_text, length_text, tells_length};
 
@@ -210,16 +210,7 @@ impl Negotiation {
         if flags.version_min != 0 {
             return refused(LoginStatus::UnsupportedVersion);
         }
-        if is_too_long(&self.said, whole) {
-            return refused(LoginStatus::InitiatorError);
-        }
-        if !is_text(whole) {
-            return refused(LoginStatus::InitiatorError);
-        }
-        if has_repeated(true, &self.said, whole) {
-            return refused(LoginStatus::InitiatorError);
-        }
-        if has_bad_name(whole) {
+        if self.has_bad_text(true, whole) || has_bad_name(whole) {
             return refused(LoginStatus::InitiatorError);
         }
         self.refusal_by_names(flags, whole)
@@ -256,19 +247,21 @@ impl Negotiation {
         requires { is_none self.now.kind ≡ false }
         ensures { result ≡ first_refusal rules_of_later self.now flags whole.now }
     {
-        if is_too_long(&self.said, whole) {
-            return refused(LoginStatus::InitiatorError);
-        }
-        if !is_text(whole) {
-            return refused(LoginStatus::InitiatorError);
-        }
-        if has_repeated(false, &self.said, whole) {
+        if self.has_bad_text(false, whole) {
             return refused(LoginStatus::InitiatorError);
         }
         if wants_authentication(whole) {
             return refused(LoginStatus::AuthenticationFailure);
         }
         None
+    }
+
+    /// Whether a text is too long with what was said, no list of pairs, or names a key again.
+    fn has_bad_text(&self, first: bool, whole: &[u8]) -> bool
+        ensures { result ≡ (is_too_long self.now.said whole.now
+            || (not (is_text whole.now) || has_repeated first (pairs self.now.said) (pairs whole.now))) }
+    {
+        is_too_long(&self.said, whole) || !is_text(whole) || has_repeated(first, &self.said, whole)
     }
 
     /// Answers a request that no rule refuses, whose text stands in `run_text` with those of its run.
