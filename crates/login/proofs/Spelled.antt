@@ -69,21 +69,19 @@ split_more p ps h = ap (slice_split (is_byte 0)) (text_of_more p ps)
     ∙ slice_split_at (is_byte 0) (part_of p) 0 (text_of ps) (no_zero p h) refl
 
 -- What pairs spell is a text, and is read as those pairs.
-pub read_again : (ps : List Pair) → ArePairs ps → pairs (text_of ps) ≡ ps
-unfolding pairs
-read_again [] h = refl
-read_again (p ∷ ps) h =
-    ap pairs_of (split_more p ps h.0)
-    ∙ pairs_of_more (part_of p) (slice_split (is_byte 0) (text_of ps)) (some_part 0 (text_of ps))
-    ∙ ap (λ (x : Pair). x ∷ pairs (text_of ps)) (pair_of_part p h.0) ∙ ap (λ (x : List Pair). p ∷ x) (read_again ps h.1)
-
-pub is_text_again : (ps : List Pair) → ArePairs ps → is_text (text_of ps) ≡ true
-unfolding is_text
-is_text_again [] h = refl
-is_text_again (p ∷ ps) h =
-    ap are_pairs (split_more p ps h.0)
-    ∙ are_pairs_more (part_of p) (slice_split (is_byte 0) (text_of ps)) (some_part 0 (text_of ps))
-    ∙ ap (λ (x : Bool). x && is_text (text_of ps)) (is_pair_part p h.0) ∙ is_text_again ps h.1
+pub again : (ps : List Pair) → ArePairs ps → (is_text (text_of ps) ≡ true) × (pairs (text_of ps) ≡ ps)
+unfolding is_text pairs
+again [] h = (refl, refl)
+again (p ∷ ps) h =
+    let parts : List (List ℕ) = slice_split (is_byte 0) (text_of ps) in
+    let more = split_more p ps h.0 in
+    let some : 0 < length parts = some_part 0 (text_of ps) in
+    let rest = again ps h.1 in (
+      ap are_pairs more ∙ are_pairs_more (part_of p) parts some
+          ∙ ap (λ (x : Bool). x && is_text (text_of ps)) (is_pair_part p h.0) ∙ rest.0,
+      ap pairs_of more ∙ pairs_of_more (part_of p) parts some
+          ∙ ap (λ (x : Pair). x ∷ pairs (text_of ps)) (pair_of_part p h.0) ∙ ap (λ (x : List Pair). p ∷ x) rest.1,
+    )
 
 inside : (n len : ℕ) (b : Bool) → (nat_lt n len && b) ≡ true → n < len
 inside n len b h = grind (arith, nat_tests)
