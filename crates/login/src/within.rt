@@ -19,6 +19,15 @@ pub enum TextAnswer {
     TooLong,
 }
 
+// What a text is answered by: the target's name, the kind of the session that asks, and the text of the target's name
+// and its portals.
+#[derive(Clone, Copy)]
+struct Telling<'a> {
+    target: &'a [u8],
+    kind: SessionType,
+    told: &'a [u8],
+}
+
 /// Answers the text of a Text request in a session of this kind as [`send_targets`](crate::send_targets) does, in
 /// memory that has room for the most bytes of an answer. `told` is the target's text, of its name and its portals.
 pub fn answer_within(
@@ -38,7 +47,7 @@ pub fn answer_within(
     if !is_text(text) || count_of_pairs(text) > MOST_PAIRS {
         return TextAnswer::Fault;
     }
-    if answered_within(out, most, target, kind, told, text) {
+    if answered_within(out, most, &Telling { target, kind, told }, text) {
         TextAnswer::Answered
     } else {
         TextAnswer::TooLong
@@ -46,23 +55,16 @@ pub fn answer_within(
 }
 
 // Appends the answers to the pairs of a text, where they have room.
-fn answered_within(
-    out: &mut Vec<u8>,
-    most: usize,
-    target: &[u8],
-    kind: SessionType,
-    told: &[u8],
-    text: &[u8],
-) -> bool
+fn answered_within(out: &mut Vec<u8>, most: usize, by: &Telling<'_>, text: &[u8]) -> bool
     requires room { most ≤ vec_capacity out.old }
     requires short { length out.old.items ≤ most }
     ensures put { IsPutWithin result most out.old.items out.new.items
-        (answers_of target.now kind told.now (pairs text.now)) }
+        (answers_of by.now.target.now by.now.kind by.now.told.now (pairs text.now)) }
     ensures kept { vec_capacity out.old ≤ vec_capacity out.new }
 {
     let mut rest = text;
     while let Some(first) = first_pair(rest) {
-        if !answer_one(out, most, target, kind, told, first.key, first.value) {
+        if !answer_one(out, most, by, first.key, first.value) {
             return false;
         }
         rest = first.rest;
@@ -72,23 +74,15 @@ fn answered_within(
 
 // Appends the answer to a pair, where it has room.
 #[tactic(auto, unfolding(crate::specs::Targets::answer_of))]
-fn answer_one(
-    out: &mut Vec<u8>,
-    most: usize,
-    target: &[u8],
-    kind: SessionType,
-    told: &[u8],
-    key: &[u8],
-    value: &[u8],
-) -> bool
+fn answer_one(out: &mut Vec<u8>, most: usize, by: &Telling<'_>, key: &[u8], value: &[u8]) -> bool
     requires room { most ≤ vec_capacity out.old }
     requires short { length out.old.items ≤ most }
     ensures put { IsPutWithin result most out.old.items out.new.items
-        (answer_of target.now kind told.now key.now value.now) }
+        (answer_of by.now.target.now by.now.kind by.now.told.now key.now value.now) }
     ensures kept { vec_capacity out.old ≤ vec_capacity out.new }
 {
     if key == b"SendTargets".as_slice() {
-        targets_within(out, most, target, kind, told, value)
+        targets_within(out, most, by, value)
     } else if Key::named(key).is_some() {
         pair_within(out, most, key, b"Reject")
     } else {
@@ -97,26 +91,19 @@ fn answer_one(
 }
 
 // Appends what SendTargets asks for, where it has room.
-fn targets_within(
-    out: &mut Vec<u8>,
-    most: usize,
-    target: &[u8],
-    kind: SessionType,
-    told: &[u8],
-    value: &[u8],
-) -> bool
+fn targets_within(out: &mut Vec<u8>, most: usize, by: &Telling<'_>, value: &[u8]) -> bool
     requires room { most ≤ vec_capacity out.old }
     requires short { length out.old.items ≤ most }
     ensures put { IsPutWithin result most out.old.items out.new.items
-        (targets_text target.now kind value.now told.now) }
+        (targets_text by.now.target.now by.now.kind value.now by.now.told.now) }
     ensures kept { vec_capacity out.old ≤ vec_capacity out.new }
 {
-    if value == target || value.is_empty() {
-        bytes_within(out, most, told)
+    if value == by.target || value.is_empty() {
+        bytes_within(out, most, by.told)
     } else if value != b"All".as_slice() {
         bytes_within(out, most, &[])
-    } else if kind == SessionType::Discovery {
-        bytes_within(out, most, told)
+    } else if by.kind == SessionType::Discovery {
+        bytes_within(out, most, by.told)
     } else {
         pair_within(out, most, b"SendTargets", b"Reject")
     }
