@@ -2,7 +2,7 @@
 use Rattle.std.proofs.Common.{◌≡◌, ◌∙◌, ℕ, List, Option, Some, None, refl, sym, ap, subst}
 use Rattle.session_rules.specs.Words.{Header, Initiator, NopOut, ScsiCommand, DataOut, TaskManagementRequest, TextRequest, LogoutRequest}
 use Rattle.session_full_feature.specs.{Counters.Counters, MakesTurn.MakesTurn}
-use Rattle.session_full_feature.specs.Step.{Step, says, rejects, serves, resets, end_of, telling, Runs}
+use Rattle.session_full_feature.specs.Step.{Step, says, rejects, serves, resets, end_of, telling, IsRun, Runs}
 use Rattle.session_full_feature.specs.Machine.{OnOpened, calls, sends_first_r2t, turns_away, OnFed, fills, sends_next_r2t, calls_now}
 use Rattle.session_full_feature.specs.Machine.{OnManagedBy, OnTaken, OnFullPdu, OnUnaccepted, OnIncoming}
 use Rattle.session_stream.specs.{declared.pdus.Pdus.Pdus, Outbox.OutboxValue, Outbox.IsQueued, Pdus.sent_by}
@@ -24,9 +24,14 @@ pub run_said : (b : List ℕ) (x : Pdus) (end : Option End) (s : Counters) → R
 run_said b (pdus.Reject r) end s = record { call_is = refl; sent_is = refl; next_is = refl }
 run_said b x end s = record { call_is = refl; sent_is = refl; next_is = refl }
 
-pub outs_so : (b : List ℕ) (x : Pdus) (end wanted : Option End) (outs : List Out) (s : Counters)
-    → telling x end ≡ says outs wanted → sent_by b x ≡ outs
-outs_so b x end wanted outs s e = (ran b _ (says outs wanted) s None (sent_by b x) s e (run_said b x end s)).sent_is
+-- a call that was answered so is run, where these PDUs tell its answer
+pub run_so : (asked : Asking) (b : List ℕ) (x : Pdus) (end wanted : Option End) (outs : List Out) (next s' : Counters)
+    → telling x end ≡ says outs wanted → s' ≡ next → IsRun (Some asked) outs next (Some asked) (sent_by b x) s'
+run_so asked b x end wanted outs next s' told next_is = record {
+  call_is = refl;
+  sent_is = (ran b _ (says outs wanted) next None (sent_by b x) next told (run_said b x end next)).sent_is;
+  next_is = next_is;
+}
 
 -- ---- the end of a turn is that of its step, or of its call
 
