@@ -17,7 +17,7 @@ use Rattle.scsi_types.specs.declared.status.Status.TheVariants.{Good}
 use Rattle.unit_control.specs.declared.refusal.Refusal.{Refusal}
 use Rattle.unit_control.specs.declared.refusal.Refusal.TheVariants.{Attention, Conflict, Check}
 use Rattle.unit_control.specs.State.{ControlValue, UnitState}
-use Rattle.unit_control.specs.Choice.{Choice, Fine, ReadFailed, WriteFailed, OpenFailed, SaveFailed}
+use Rattle.unit_control.specs.Choice.{Choice, Fine, WriteFailed}
 use Rattle.unit_control.specs.Entry.{Entry, Attach, Detach, Reset, Move, Command, CanChoose, IsPossible, IsReplyTo, IsReplyWith, MayCome, after, blocks_with}
 use Rattle.unit_control.specs.Entry.{control_with, left_control, count_command, returned}
 use Rattle.unit_state.specs.History.{state_after, IsLegal}
@@ -143,89 +143,51 @@ module _ (c : ControlValue) (session : ℕ) (bytes : List ℕ) where
   may_come : (f : Flushing) (choice : Choice) → MayCome c session (Ok (served_by f)) bytes choice
       → MayCome c session (Ok (asked_by f)) bytes choice
   may_come f Fine is = tt
-  may_come (writes lba blocks) ReadFailed is = is
-  may_come (compares lba blocks) ReadFailed is = is
-  may_come (synchronizes lba blocks) ReadFailed is = is
-  may_come (writes lba blocks) (WriteFailed after) is = is
-  may_come (compares lba blocks) (WriteFailed after) is = is
-  may_come (synchronizes lba blocks) (WriteFailed after) is = is
-  may_come (writes lba blocks) OpenFailed is = is
-  may_come (compares lba blocks) OpenFailed is = is
-  may_come (synchronizes lba blocks) OpenFailed is = is
-  may_come (writes lba blocks) (SaveFailed after) is = is
-  may_come (compares lba blocks) (SaveFailed after) is = is
-  may_come (synchronizes lba blocks) (SaveFailed after) is = is
+  may_come (writes lba blocks) choice is = is
+  may_come (compares lba blocks) choice is = is
+  may_come (synchronizes lba blocks) choice is = is
 
   may_fail : (f : Flushing) (after : List (List ℕ)) → MayCome c session (Ok (asked_by f)) bytes (WriteFailed after)
   may_fail (writes lba blocks) after = tt
-  may_fail (compares lba blocks) after = tt
-  may_fail (synchronizes lba blocks) after = tt
+  may_fail f after = tt
 
   may_find : (f : Flushing) (choice : Choice) (finding : Finding) → MayFind (work_of (served_by f) bytes) choice finding
       → MayFind (work_of (asked_by f) bytes) choice finding
   may_find (writes lba blocks) Fine finding is = is
   may_find (compares lba blocks) Fine finding is = is
   may_find (synchronizes lba blocks) Fine finding is = is
-  may_find (writes lba blocks) ReadFailed finding is = is
-  may_find (compares lba blocks) ReadFailed finding is = is
-  may_find (synchronizes lba blocks) ReadFailed finding is = is
-  may_find (writes lba blocks) (WriteFailed after) finding is = is
-  may_find (compares lba blocks) (WriteFailed after) finding is = is
-  may_find (synchronizes lba blocks) (WriteFailed after) finding is = is
-  may_find (writes lba blocks) OpenFailed finding is = is
-  may_find (compares lba blocks) OpenFailed finding is = is
-  may_find (synchronizes lba blocks) OpenFailed finding is = is
-  may_find (writes lba blocks) (SaveFailed after) finding is = is
-  may_find (compares lba blocks) (SaveFailed after) finding is = is
-  may_find (synchronizes lba blocks) (SaveFailed after) finding is = is
+  may_find f choice finding is = is
 
   left_same : (f : Flushing) (choice : Choice) (blocks : List (List ℕ))
       → left blocks (work_of (asked_by f) bytes) choice ≡ left blocks (work_of (served_by f) bytes) choice
   left_same (writes lba count) Fine blocks = refl
   left_same (compares lba count) Fine blocks = refl
   left_same (synchronizes lba count) Fine blocks = sym (written_none blocks (lba + (count - 1)))
-  left_same (writes lba count) ReadFailed blocks = refl
-  left_same (compares lba count) ReadFailed blocks = refl
-  left_same (synchronizes lba count) ReadFailed blocks = refl
-  left_same (writes lba count) (WriteFailed after) blocks = refl
-  left_same (compares lba count) (WriteFailed after) blocks = refl
-  left_same (synchronizes lba count) (WriteFailed after) blocks = refl
-  left_same (writes lba count) OpenFailed blocks = refl
-  left_same (compares lba count) OpenFailed blocks = refl
-  left_same (synchronizes lba count) OpenFailed blocks = refl
-  left_same (writes lba count) (SaveFailed after) blocks = refl
-  left_same (compares lba count) (SaveFailed after) blocks = refl
-  left_same (synchronizes lba count) (SaveFailed after) blocks = refl
+  left_same f choice blocks = refl
 
   left_failed : (f : Flushing) (blocks after : List (List ℕ)) → left blocks (work_of (asked_by f) bytes) (WriteFailed after) ≡ after
   left_failed (writes lba count) blocks after = refl
-  left_failed (compares lba count) blocks after = refl
-  left_failed (synchronizes lba count) blocks after = refl
+  left_failed f blocks after = refl
 
   control_kept : (f : Flushing) (choice : Choice) → left_control c (asked f) choice ≡ c
   control_kept (writes lba count) choice = refl
-  control_kept (compares lba count) choice = refl
-  control_kept (synchronizes lba count) choice = refl
+  control_kept f choice = refl
 
   control_kept_served : (f : Flushing) (choice : Choice) → left_control c (served f) choice ≡ c
   control_kept_served (writes lba count) choice = refl
-  control_kept_served (compares lba count) choice = refl
-  control_kept_served (synchronizes lba count) choice = refl
+  control_kept_served f choice = refl
 
   returned_same : (f : Flushing) (finding : Finding) → returned c (served f) finding ≡ returned c (asked f) finding
   returned_same (writes lba count) finding = refl
-  returned_same (compares lba count) finding = refl
-  returned_same (synchronizes lba count) finding = refl
+  returned_same f finding = refl
 
   finds_error : (f : Flushing) (after : List (List ℕ)) → MayFind (work_of (asked_by f) bytes) (WriteFailed after) WriteError
   finds_error (writes lba count) after = refl
-  finds_error (compares lba count) after = refl
-  finds_error (synchronizes lba count) after = refl
+  finds_error f after = refl
 
   returns_error : (f : Flushing) → check write_error ≡ returned c (asked f) WriteError
   returns_error (writes lba count) = refl
-  returns_error (compares lba count) = refl
-  returns_error (synchronizes lba count) = refl
+  returns_error f = refl
 
   -- ---- with a refusal, or none
 
@@ -277,16 +239,18 @@ module _ (claims : Bool) (now : UnitState) (session serial : ℕ) (by : Group) (
       with_blocks : ControlValue → List (List ℕ) → UnitState
       with_blocks x b = record { control = x; blocks = b }
 
+  -- it is possible as it was asked, with each choice that it then may come to
+  possible_as : (end : Choice) → CanChoose (refusal c (asked c session bytes f)) c (asked c session bytes f) end
+      → IsPossible claims now was → IsPossible false now (as_asked end)
+  possible_as end chosen is =
+      record { next = is.next; owner = is.owner; chosen = chosen; torn = λ (h : IsTrue false). absurd (false≢true h) }
+
   -- with the reply of its entry
   pub possible_so : IsPossible claims now was → IsPossible false now (as_asked choice)
   possible_so is =
-      record {
-        next = is.next;
-        owner = is.owner;
-        chosen = subst (λ (o : Option Refusal). CanChoose o c (asked c session bytes f) choice) (sym same_refusal)
-            (chosen_same c session bytes f choice (refusal c (served c session bytes f)) is.chosen);
-        torn = λ (h : IsTrue false). absurd (false≢true h);
-      }
+      possible_as choice
+      (subst (λ (o : Option Refusal). CanChoose o c (asked c session bytes f) choice) (sym same_refusal)
+      (chosen_same c session bytes f choice (refusal c (served c session bytes f)) is.chosen)) is
 
   pub same_so : after now (as_asked choice) ≡ after now was
   same_so =
@@ -330,13 +294,9 @@ module _ (claims : Bool) (now : UnitState) (session serial : ℕ) (by : Group) (
 
     pub possible_lost : IsPossible claims now was → IsPossible false now (as_asked lost)
     possible_lost is =
-        record {
-          next = is.next;
-          owner = is.owner;
-          chosen = subst (λ (o : Option Refusal). CanChoose o c (asked c session bytes f) lost) (sym none_asked)
-              (may_fail c session bytes f (blocks_with (refusal c (served c session bytes f)) now.blocks (work_of (served_by f) bytes) choice));
-          torn = λ (h : IsTrue false). absurd (false≢true h);
-        }
+        possible_as lost
+        (subst (λ (o : Option Refusal). CanChoose o c (asked c session bytes f) lost) (sym none_asked)
+        (may_fail c session bytes f (blocks_with (refusal c (served c session bytes f)) now.blocks (work_of (served_by f) bytes) choice))) is
 
     pub same_lost : after now (as_asked lost) ≡ after now was
     same_lost =
