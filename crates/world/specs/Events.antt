@@ -41,6 +41,14 @@ count_at w x = length (w.past x.place)
 abbrev pub with_traffic : Scene → Traffic → Scene
 with_traffic w t = scene w.past t
 
+-- what a session that is there makes of what is on its way, or may make of it; else nothing changes
+abbrev pub acted : Scene → ℕ → (Session → Traffic) → Scene
+acted w n act = with_traffic w (given w.traffic (slice_get w.traffic.sessions n) act)
+
+abbrev pub MayAct : Scene → ℕ → (Session → Traffic → Type 0) → Scene → Type 0
+MayAct w n Act new =
+    MatchOption (slice_get w.traffic.sessions n) (new ≡ w) (λ x. (t : Traffic) × Act x t × (new ≡ with_traffic w t))
+
 module _ (claims : Bool) (units : ℕ) (opening : ℕ → UnitState) where
   -- the unit at a place takes this entry: its history stays legal
   abbrev pub Takes : (ℕ → List Entry) → ℕ → Entry → Type 0
@@ -74,49 +82,38 @@ module _ (claims : Bool) (units : ℕ) (opening : ℕ → UnitState) where
   IsServing w n x (Flushes flush) new = new ≡ w
   IsServing w n x (Returned job) new = new ≡ w
 
+  -- A session that is there ends, or resets its unit, by this entry; else nothing changes.
+  abbrev pub IsOfSession : Scene → ℕ → (ℕ → Entry) → Scene → Type 0
+  IsOfSession w n entry new =
+      MatchOption (slice_get w.traffic.sessions n) (new ≡ w)
+      (λ x. IsEntry w x.place (entry x.id) w.traffic (IsSessionGone (opening x.place) (w.past x.place) x.id) new)
+
   -- The step of each event. What can't happen changes nothing.
   abbrev pub IsStep : Scene → Event → Scene → Type 0
   IsStep w (events.Attach place port group) new =
       IsEntry w place (Attach (through port group)) (attached w.traffic place (length (w.past place)))
       (IsFull (opening place) (w.past place) (through port group)) new
-  IsStep w (events.Detach n) new =
-      MatchOption (slice_get w.traffic.sessions n) (new ≡ w)
-      (λ x. IsEntry w x.place (Detach x.id) w.traffic (IsSessionGone (opening x.place) (w.past x.place) x.id) new)
-  IsStep w (events.Reset n) new =
-      MatchOption (slice_get w.traffic.sessions n) (new ≡ w)
-      (λ x. IsEntry w x.place (Reset x.id) w.traffic (IsSessionGone (opening x.place) (w.past x.place) x.id) new)
+  IsStep w (events.Detach n) new = IsOfSession w n (λ id. Detach id) new
+  IsStep w (events.Reset n) new = IsOfSession w n (λ id. Reset id) new
   IsStep w (events.Move place list) new =
       IsEntry w place (Move list Fine) w.traffic
       ((why : MoveFault) × StaysBehind (opening place) (w.past place) list why) new
   IsStep w (events.Submit n by_group asked bytes is_late) new =
       (job : Job) × IsHanded is_late (new_job by_group asked bytes) job
-      × (new ≡ with_traffic w (given w.traffic (slice_get w.traffic.sessions n)
-      (λ x. submitted (count_at w x) w.traffic n x job)))
-  IsStep w (events.SubmitAgain n is_late) new =
-      MatchOption (slice_get w.traffic.sessions n) (new ≡ w)
-      (λ x. (t : Traffic) × IsSubmittedAgain (count_at w x) is_late w.traffic n x t × (new ≡ with_traffic w t))
+      × (new ≡ acted w n (λ x. submitted (count_at w x) w.traffic n x job))
+  IsStep w (events.SubmitAgain n is_late) new = MayAct w n (λ x. IsSubmittedAgain (count_at w x) is_late w.traffic n x) new
   IsStep w (events.Begin n by_group asked bytes is_late) new =
       (job : Job) × IsHanded is_late (new_job by_group asked bytes) job
-      × (new ≡ with_traffic w (given w.traffic (slice_get w.traffic.sessions n)
-      (λ x. begun (count_at w x) w.traffic n x job)))
-  IsStep w (events.BeginAgain n is_late) new =
-      MatchOption (slice_get w.traffic.sessions n) (new ≡ w)
-      (λ x. (t : Traffic) × IsBegunAgain (count_at w x) is_late w.traffic n x t × (new ≡ with_traffic w t))
-  IsStep w (events.TakeBack n) new =
-      MatchOption (slice_get w.traffic.sessions n) (new ≡ w)
-      (λ x. (t : Traffic) × IsTakenBack w.traffic n x t × (new ≡ with_traffic w t))
+      × (new ≡ acted w n (λ x. begun (count_at w x) w.traffic n x job))
+  IsStep w (events.BeginAgain n is_late) new = MayAct w n (λ x. IsBegunAgain (count_at w x) is_late w.traffic n x) new
+  IsStep w (events.TakeBack n) new = MayAct w n (λ x. IsTakenBack w.traffic n x) new
   IsStep w (events.Close group) new = new ≡ with_traffic w (closed w.traffic group)
   IsStep w (events.Take group) new = new ≡ with_traffic w (taken w.traffic group)
   IsStep w (events.Serve n) new =
       MatchOption (slice_get w.traffic.sessions n) (new ≡ w) (λ x. IsServing w n x x.stage new)
-  IsStep w (events.Post n) new =
-      new ≡ with_traffic w (given w.traffic (slice_get w.traffic.sessions n) (λ x. posted w.traffic n x))
-  IsStep w (events.Collect n) new =
-      new ≡ with_traffic w (given w.traffic (slice_get w.traffic.sessions n)
-      (λ x. collected (count_at w x) w.traffic n x))
-  IsStep w (events.EndFlush n is_done) new =
-      new ≡ with_traffic w (given w.traffic (slice_get w.traffic.sessions n)
-      (λ x. flush_ended (count_at w x) w.traffic n x is_done))
+  IsStep w (events.Post n) new = new ≡ acted w n (λ x. posted w.traffic n x)
+  IsStep w (events.Collect n) new = new ≡ acted w n (λ x. collected (count_at w x) w.traffic n x)
+  IsStep w (events.EndFlush n is_done) new = new ≡ acted w n (λ x. flush_ended (count_at w x) w.traffic n x is_done)
 
   -- the steps of a list of events, one behind the other
   abbrev pub AreSteps : Scene → List Event → Scene → Type 0
