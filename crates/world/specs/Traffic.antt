@@ -123,70 +123,35 @@ in_hand count t n x job =
     then given_up count t n x Busy
     else noted (at_stage t n x (InLane job)) (note_of count x Submitted)
 
--- ---- the stages that an event asks for
+-- ---- what there is at the stages that an event asks for; at any other there is none
 
 abbrev pub is_idle : Stage → Bool
 is_idle Idle = true
-is_idle (Waits job) = false
-is_idle (InLane job) = false
-is_idle (Ended job end) = false
-is_idle (Answered job end) = false
-is_idle (Flushes flush) = false
-is_idle (Returned job) = false
+is_idle _ = false
 
 abbrev pub waits_in : Stage → Option Job
-waits_in Idle = None
 waits_in (Waits job) = Some job
-waits_in (InLane job) = None
-waits_in (Ended job end) = None
-waits_in (Answered job end) = None
-waits_in (Flushes flush) = None
-waits_in (Returned job) = None
+waits_in _ = None
 
 abbrev pub lane_in : Stage → Option Job
-lane_in Idle = None
-lane_in (Waits job) = None
 lane_in (InLane job) = Some job
-lane_in (Ended job end) = None
-lane_in (Answered job end) = None
-lane_in (Flushes flush) = None
-lane_in (Returned job) = None
+lane_in _ = None
 
 abbrev pub ended_in : Stage → Option (Job × End)
-ended_in Idle = None
-ended_in (Waits job) = None
-ended_in (InLane job) = None
 ended_in (Ended job end) = Some (job, end)
-ended_in (Answered job end) = None
-ended_in (Flushes flush) = None
-ended_in (Returned job) = None
+ended_in _ = None
 
 abbrev pub answered_in : Stage → Option (Job × End)
-answered_in Idle = None
-answered_in (Waits job) = None
-answered_in (InLane job) = None
-answered_in (Ended job end) = None
 answered_in (Answered job end) = Some (job, end)
-answered_in (Flushes flush) = None
-answered_in (Returned job) = None
+answered_in _ = None
 
 abbrev pub returned_in : Stage → Option Job
-returned_in Idle = None
-returned_in (Waits job) = None
-returned_in (InLane job) = None
-returned_in (Ended job end) = None
-returned_in (Answered job end) = None
-returned_in (Flushes flush) = None
 returned_in (Returned job) = Some job
+returned_in _ = None
 
 abbrev pub flush_in : Stage → Option Flush
-flush_in Idle = None
-flush_in (Waits job) = None
-flush_in (InLane job) = None
-flush_in (Ended job end) = None
-flush_in (Answered job end) = None
 flush_in (Flushes flush) = Some flush
-flush_in (Returned job) = None
+flush_in _ = None
 
 -- ---- the events of a session, which is there, at a stage that they ask for; else nothing changes
 
