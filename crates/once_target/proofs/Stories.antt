@@ -62,6 +62,9 @@ counted_failed before mid now done e history failed undone t k =
       only = λ room none. absurd (omega (arith, more));
     }
 
+not_fine : false ≡ true → ⊥
+not_fine e = cc
+
 counted_more : (before mid now session serial : ℕ) (by_group : Group) (asked : Result ScsiCommand CdbFault)
     (bytes : List ℕ) (choice : Choice) (history : List Entry)
     → Tells before mid (IsFine choice) → AreCounted mid now history
@@ -76,17 +79,13 @@ counted_more before mid now session serial by_group asked bytes Fine history t k
       arith;
 }
 counted_more before mid now session serial by_group asked bytes ReadFailed history t k =
-    counted_failed before mid now (IsFine ReadFailed) (Command session serial by_group asked bytes ReadFailed) history refl
-    (λ (e : false ≡ true). cc) t k
+    counted_failed before mid now _ (Command _ _ _ _ _ ReadFailed) history refl not_fine t k
 counted_more before mid now session serial by_group asked bytes (WriteFailed after) history t k =
-    counted_failed before mid now (IsFine (WriteFailed after)) (Command session serial by_group asked bytes (WriteFailed after)) history refl
-    (λ (e : false ≡ true). cc) t k
+    counted_failed before mid now _ (Command _ _ _ _ _ (WriteFailed after)) history refl not_fine t k
 counted_more before mid now session serial by_group asked bytes OpenFailed history t k =
-    counted_failed before mid now (IsFine OpenFailed) (Command session serial by_group asked bytes OpenFailed) history refl
-    (λ (e : false ≡ true). cc) t k
+    counted_failed before mid now _ (Command _ _ _ _ _ OpenFailed) history refl not_fine t k
 counted_more before mid now session serial by_group asked bytes (SaveFailed records) history t k =
-    counted_failed before mid now (IsFine (SaveFailed records)) (Command session serial by_group asked bytes (SaveFailed records)) history refl
-    (λ (e : false ≡ true). cc) t k
+    counted_failed before mid now _ (Command _ _ _ _ _ (SaveFailed records)) history refl not_fine t k
 
 -- the opener and the registration file never fail, so that the device alone counts
 tells_alone : (before now : ℕ) (done : Type 0) → Tells (before + 0 + 0) (now + 0 + 0) done → Tells before now done
