@@ -27,6 +27,19 @@ impl<E, J: Naming> Model for History<E, J> {
 }
 
 impl<E, J: Naming> History<E, J> {
+    /// The history of so many entries that was seen so.
+    pub(crate) fn of_seen(count: u64, seen: &Seen<E, Answer, Law>) -> History<E, J>
+        requires count { count ≡ length seen.now.log }
+        requires book { seen.now.book ≡ J.book }
+        ensures { result ≡ seen.now.log }
+    {
+        History {
+            count,
+            seen: seen.again(),
+            of: PhantomData,
+        }
+    }
+
     /// How many entries it has.
     pub fn len(&self) -> u64
         ensures { result ≡ length self.now }
@@ -38,11 +51,7 @@ impl<E, J: Naming> History<E, J> {
     pub fn again(&self) -> History<E, J>
         ensures { result ≡ self.now }
     {
-        History {
-            count: self.count,
-            seen: self.seen.again(),
-            of: PhantomData,
-        }
+        History::of_seen(self.count, &self.seen)
     }
 
     /// The longer of two, which the other begins.

@@ -116,11 +116,7 @@ impl<E, J: Naming> Recorder<E, J> {
     pub fn history(&self) -> History<E, J>
         ensures { result ≡ self.now }
     {
-        History {
-            count: self.count,
-            seen: self.seen.again(),
-            of: PhantomData,
-        }
+        History::of_seen(self.count, &self.seen)
     }
 
     /// One load of the word, which shows that whatever was seen of the history begins it.
