@@ -327,16 +327,6 @@ module _ {E S : Type 0} (own command : ℕ → E → ℕ) (legal : S → List E 
         λ _ j u far h c m. let b = ((k.fits j u h).counts c).0 in absurd (omega (arith, as_long, m)),
       ))
 
-  passes : (by : ℕ) (s : S) (log : List E) (e : E) (new : List ℕ) → IsFree own command e → legal s (log ++ e ∷ []) → new ≡ rows s (log ++ e ∷ [])
-      → Turns K by (publisher s log) (λ _. new) (λ v x y w. w ≡ publisher s (log ++ e ∷ []))
-  passes by s log e new is_free legal_ row_ =
-      extends by s log e new false false (record { session = 0; count = 0; commands = 0 }) (record { session = 0; count = 0; commands = 0 }) legal_ row_ (λ words views k all at. (
-        λ r le. is_free r,
-        λ j u far h c. is_free u.session,
-        λ h. absurd (off h),
-        λ h. absurd (off h),
-      ))
-
   learns : (by : ℕ) (s : S) (log : List E) (g : Claim) → Turns K by (holder s log g) (λ x. x) (Learned own command)
   learns by s log g words views k at =
       let v = holder s log g in
@@ -355,11 +345,6 @@ module _ {E S : Type 0} (own command : ℕ → E → ℕ) (legal : S → List E 
       → Turns B by v (λ _. new) (λ _ x y w. w ≡ holder s (v.seen ++ e ∷ []) (record { session = length v.seen; count = 0; commands = 0 }))
   attaches_as by v s e new is o l r =
       becomes_as by v (publisher s v.seen) _ new is refl (attaches by s v.seen e new o l r)
-
-  pub passes_as : (by : ℕ) (v : V) (s : S) (e : E) (new : List ℕ) → v ≡ publisher s v.seen → IsFree own command e → legal s (v.seen ++ e ∷ []) → new ≡ rows s (v.seen ++ e ∷ [])
-      → Turns B by v (λ _. new) (λ _ x y w. w ≡ publisher s (v.seen ++ e ∷ []))
-  passes_as by v s e new is o l r =
-      becomes_as by v (publisher s v.seen) _ new is refl (passes by s v.seen e new o l r)
 
   pub learns_as : (by : ℕ) (v : V) (s : S) → v ≡ holder s v.seen (claim_of v) → Turns B by v (λ x. x) (Learned own command)
   learns_as by v s is =

@@ -121,7 +121,7 @@ pub(crate) fn split_right<E, S, P: Published<E, S>, J: Origin<S>>(
 }
 
 /// Writes a row, whatever is known then, which may be said by what the row is about.
-fn become_as<E, S, P: Published<E, S>, K: Now<E, S>, A, R: Wait>(
+pub(crate) fn become_as<E, S, P: Published<E, S>, K: Now<E, S>, A, R: Wait>(
     rt: &R,
     cell: &Cell<E, S, P>,
     keeper: &mut Token<E, S>,
@@ -174,49 +174,6 @@ pub(crate) fn publish_own<
           count = (cell_view keeper.old).count + 1;
           commands = (cell_view keeper.old).commands + P.command (cell_view keeper.old).session (M.ask about.entry.now);
         })) }
-{
-    become_as::<E, S, P, Brand, A, R>(rt, cell, keeper, row.words(), about);
-}
-
-/// Publishes an entry by which a session begins, whose right is then in the publisher's hand.
-pub(crate) fn publish_new<
-    E,
-    S,
-    P: Published<E, S>,
-    J: Origin<S>,
-    A,
-    M: Plain<A, E, Answer>,
-    R: Wait,
->(rt: &R, cell: &Cell<E, S, P>, keeper: &mut Token<E, S>, row: Row, about: &A)
-    requires cell { keeper.old.table_id ≡ cell.now.table.shared.table_id }
-    requires keeper { cell_view keeper.old ≡ publisher J.from (cell_view keeper.old).seen }
-    requires own { IsFree P.own P.command (M.ask about.now) }
-    requires legal { P.legal J.from ((cell_view keeper.old).seen ++ M.ask about.now ∷ []) }
-    requires row { row ≡ P.rows J.from ((cell_view keeper.old).seen ++ M.ask about.now ∷ []) }
-    ensures { IsSamePass keeper.old keeper.new
-        × (cell_view keeper.new ≡ holder J.from ((cell_view keeper.old).seen ++ M.ask about.entry.now ∷ [])
-        (record { session = length (cell_view keeper.old).seen; count = 0; commands = 0 })) }
-{
-    become_as::<E, S, P, Brand, A, R>(rt, cell, keeper, row.words(), about);
-}
-
-/// Publishes an entry of no session's own.
-pub(crate) fn publish_free<
-    E,
-    S,
-    P: Published<E, S>,
-    J: Origin<S>,
-    A,
-    M: Plain<A, E, Answer>,
-    R: Wait,
->(rt: &R, cell: &Cell<E, S, P>, keeper: &mut Token<E, S>, row: Row, about: &A)
-    requires cell { keeper.old.table_id ≡ cell.now.table.shared.table_id }
-    requires keeper { cell_view keeper.old ≡ publisher J.from (cell_view keeper.old).seen }
-    requires own { IsFree P.own P.command (M.ask about.now) }
-    requires legal { P.legal J.from ((cell_view keeper.old).seen ++ M.ask about.now ∷ []) }
-    requires row { row ≡ P.rows J.from ((cell_view keeper.old).seen ++ M.ask about.now ∷ []) }
-    ensures { IsSamePass keeper.old keeper.new
-        × (cell_view keeper.new ≡ publisher J.from ((cell_view keeper.old).seen ++ M.ask about.entry.now ∷ [])) }
 {
     become_as::<E, S, P, Brand, A, R>(rt, cell, keeper, row.words(), about);
 }

@@ -4,11 +4,11 @@ ghost use Rattle.status.specs.Views.{IsFree, IsOwn, counted};
 
 use crate::board::Board;
 use crate::law::{Origin, Published, Token};
-use crate::moves::{audit, join_right, publish_free, publish_new, publish_own, split_right};
+use crate::moves::{audit, become_as, join_right, publish_own, split_right};
 use crate::right::SessionRight;
 use crate::row::Row;
 use logbook::Plain;
-use std::marker::{Model, PhantomData};
+use std::marker::{Brand, Model, PhantomData};
 use std::sync::Wait;
 use unit_sequence::Answer;
 
@@ -70,7 +70,8 @@ impl<E, S, P: Published<E, S>, J: Origin<S>> Publisher<E, S, P, J> {
         Holder { token, of }
     }
 
-    /// Publishes an entry by which a session begins, and gives out its right. The session's number is the place of the entry.
+    /// Publishes an entry of no session's own, and gives out the right of the session that begins with it, whose number is the
+    /// place of the entry. Where none begins, nobody needs the right.
     pub fn begin<A, M: Plain<A, E, Answer>, R: Wait>(
         self,
         rt: &R,
@@ -85,26 +86,8 @@ impl<E, S, P: Published<E, S>, J: Origin<S>> Publisher<E, S, P, J> {
         ensures right { result.1 ≡ record { session = length self; count = 0; commands = 0 } }
     {
         let Publisher { mut token, of } = self;
-        publish_new::<E, S, P, J, A, M, R>(rt, &board.cell, &mut token, row, about);
+        become_as::<E, S, P, Brand, A, R>(rt, &board.cell, &mut token, row.words(), about);
         Holder { token, of }.give_back(board)
-    }
-
-    /// Publishes an entry of no session's own.
-    pub fn publish<A, M: Plain<A, E, Answer>, R: Wait>(
-        self,
-        rt: &R,
-        board: &Board<E, S, P, J>,
-        row: Row,
-        about: &A,
-    ) -> Publisher<E, S, P, J>
-        requires free { IsFree P.own P.command (M.ask about.now) }
-        requires legal { P.legal J.from (self ++ M.ask about.now ∷ []) }
-        requires row { row ≡ P.rows J.from (self ++ M.ask about.now ∷ []) }
-        ensures { result ≡ self ++ M.ask about.entry.now ∷ [] }
-    {
-        let Publisher { mut token, of } = self;
-        publish_free::<E, S, P, J, A, M, R>(rt, &board.cell, &mut token, row, about);
-        Publisher { token, of }
     }
 }
 

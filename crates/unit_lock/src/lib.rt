@@ -6,6 +6,7 @@
 //! legal, it begins with all that the pass had seen, and it ends with the call's entry. Nothing of a history is stored.
 #![tactic(auto)]
 
+mod entries;
 mod locked;
 mod machine;
 mod pass;

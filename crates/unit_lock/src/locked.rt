@@ -2,88 +2,15 @@
 ghost use Rattle.std.specs.Prelude.{◌≡◌, ◌+◌, ◌++◌, ◌∷◌, [], length, IfOk, IfErr, IfSome, MatchBool, List, Some};
 ghost use Rattle.unit_lock.specs.Calls.{IsAdded, IsBeside, IsBetween, IsEnded, IsRefused, IsCause};
 
+use crate::entries::{Attaches, Detaches, Listed, Moves, Resets, Served, Serves};
 use crate::machine::{Machine, Refused};
 use crate::pass::PassAt;
 use crate::records::{Posted, Records};
 use crate::visit::Visit;
-use logbook::Plain;
 use std::alloc::Global;
-use std::marker::{Model, PhantomData};
+use std::marker::Model;
 use std::sync::Wait;
-use unit_sequence::{Answer, Array, At, History};
-
-/// A command that was served, and the unit afterwards.
-#[derive(Drop)]
-struct Served<'a, X, G, A, R> {
-    session: u64,
-    serial: u64,
-    by_group: &'a G,
-    ask: &'a A,
-    bytes: &'a [u8],
-    reply: &'a R,
-    object: &'a X,
-}
-
-/// The entry of a command that was served.
-struct Serves<S, X>(PhantomData<(S, X)>);
-
-impl<'a, E, S, X: Machine<E, S>> Plain<Served<'a, X, X::Group, X::Ask, X::Reply>, E, Answer>
-    for Serves<S, X> {
-    ghost use Rattle.std.specs.Prelude.{None};
-
-    ghost ask = { λ d. X.serving d.session d.serial d.by_group.now d.ask.now d.bytes.now d.reply.now d.object.now };
-
-    ghost state = { λ d. None };
-}
-
-/// The entry of the session that attached last.
-struct Attaches<S, X>(PhantomData<(S, X)>);
-
-impl<E, S, X: Machine<E, S>> Plain<X, E, Answer> for Attaches<S, X> {
-    ghost use Rattle.std.specs.Prelude.{None};
-
-    ghost ask = { λ x. X.joined x };
-
-    ghost state = { λ x. None };
-}
-
-/// The entry of a reset by a session.
-struct Resets<S, X>(PhantomData<(S, X)>);
-
-impl<E, S, X: Machine<E, S>> Plain<u64, E, Answer> for Resets<S, X> {
-    ghost use Rattle.std.specs.Prelude.{None};
-
-    ghost ask = { λ session. X.resetting session };
-
-    ghost state = { λ session. None };
-}
-
-/// The entry of a session that ends.
-struct Detaches<S, X>(PhantomData<(S, X)>);
-
-impl<E, S, X: Machine<E, S>> Plain<u64, E, Answer> for Detaches<S, X> {
-    ghost use Rattle.std.specs.Prelude.{None};
-
-    ghost ask = { λ session. X.detaching session };
-
-    ghost state = { λ session. None };
-}
-
-#[derive(Drop)]
-struct Listed<'a> {
-    list: &'a [u8],
-}
-
-/// The entry of a move.
-struct Moves<S, X>(PhantomData<(S, X)>);
-
-impl<'a, E, S, X: Machine<E, S>> Plain<Listed<'a>, E, Answer> for Moves<S, X> {
-    ghost use Rattle.std.specs.Prelude.{None};
-
-    ghost ask = { λ l. X.moving l.list.now };
-
-    ghost state = { λ l. None };
-}
+use unit_sequence::{Array, At, History};
 
 /// The unit, which is what its history leaves, and all that is needed to add an entry to that. A call takes the records out
 /// and puts them back. Contracts see the history.
@@ -146,13 +73,7 @@ impl<E, S, X: Machine<E, S>, N: Array<S>, const U: usize> Locked<E, S, X, N, U> 
     {
         let session = pass.session;
         let serial = pass.serial;
-        let visit = Visit::begin::<u64, Resets<S, X>, R>(
-            rt,
-            posted,
-            &mut self.records,
-            pass,
-            &session,
-        );
+        let visit = Visit::begin(rt, posted, &mut self.records, pass);
         match self
             .object
             .step(memory, session, serial, by_group, ask, bytes)
@@ -178,10 +99,7 @@ impl<E, S, X: Machine<E, S>, N: Array<S>, const U: usize> Locked<E, S, X, N, U> 
                 );
                 (pass, Ok(reply))
             }
-            Err(why) => {
-                let pass = visit.leave(posted, &mut self.records);
-                (pass, Err(why))
-            }
+            Err(why) => (visit.leave(posted, &mut self.records), Err(why)),
         }
     }
 
@@ -209,13 +127,7 @@ impl<E, S, X: Machine<E, S>, N: Array<S>, const U: usize> Locked<E, S, X, N, U> 
             row,
             &*self.object,
         );
-        Ok(PassAt {
-            session,
-            serial: 1,
-            seen,
-            right,
-            of: PhantomData,
-        })
+        Ok(PassAt::new(session, 1, seen, right))
     }
 
     /// Resets the unit for a session.
@@ -232,28 +144,15 @@ impl<E, S, X: Machine<E, S>, N: Array<S>, const U: usize> Locked<E, S, X, N, U> 
         ensures seen { self.new ≡ result.0.seen }
     {
         let session = pass.session;
-        let serial = pass.serial;
-        let visit = Visit::begin::<u64, Resets<S, X>, R>(
-            rt,
-            posted,
-            &mut self.records,
-            pass,
-            &session,
-        );
+        let visit = Visit::begin(rt, posted, &mut self.records, pass);
         if self.object.reset(session) {
             let row = self.object.row();
-            let pass = visit.finish::<u64, Resets<S, X>, R>(
-                rt,
-                posted,
-                &mut self.records,
-                row,
-                &session,
-                serial,
-            );
-            (pass, true)
+            (
+                visit.note::<Resets<S, X>, R>(rt, posted, &mut self.records, row),
+                true,
+            )
         } else {
-            let pass = visit.leave(posted, &mut self.records);
-            (pass, false)
+            (visit.leave(posted, &mut self.records), false)
         }
     }
 
@@ -271,28 +170,13 @@ impl<E, S, X: Machine<E, S>, N: Array<S>, const U: usize> Locked<E, S, X, N, U> 
         ensures same { IfErr result (λ p. (self.new ≡ p.seen) × (self.new ≡ self.old)) }
     {
         let session = pass.session;
-        let serial = pass.serial;
-        let visit = Visit::begin::<u64, Resets<S, X>, R>(
-            rt,
-            posted,
-            &mut self.records,
-            pass,
-            &session,
-        );
+        let visit = Visit::begin(rt, posted, &mut self.records, pass);
         if self.object.detach(session) {
             let row = self.object.row();
-            let pass = visit.finish::<u64, Detaches<S, X>, R>(
-                rt,
-                posted,
-                &mut self.records,
-                row,
-                &session,
-                serial,
-            );
+            let pass = visit.note::<Detaches<S, X>, R>(rt, posted, &mut self.records, row);
             Ok(pass.into_history())
         } else {
-            let pass = visit.leave(posted, &mut self.records);
-            Err(pass)
+            Err(visit.leave(posted, &mut self.records))
         }
     }
 
@@ -317,7 +201,7 @@ impl<E, S, X: Machine<E, S>, N: Array<S>, const U: usize> Locked<E, S, X, N, U> 
             Ok(change) => {
                 let row = self.object.row();
                 let about = Listed { list };
-                let seen = Records::add_in::<Listed, Moves<S, X>, R>(
+                let (seen, _) = Records::join_in::<Listed, Moves<S, X>, R>(
                     &mut self.records,
                     rt,
                     posted,

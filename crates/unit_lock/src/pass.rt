@@ -1,6 +1,7 @@
 //! What a session has seen, and its right to add to it.
-ghost use Rattle.std.specs.Prelude.{◌≡◌, ◌⊎◌, length, MatchBool};
+ghost use Rattle.std.specs.Prelude.{◌≡◌, ◌≤◌, ◌+◌, ◌⊎◌, length, MatchBool};
 ghost use mathlib.Core.List.{IsPrefix};
+ghost use Rattle.status.specs.Views.{counted};
 
 use status::{AnySessionRight, Published, SessionRight};
 use std::marker::{Model, PhantomData};
@@ -102,6 +103,28 @@ impl<E, S, P: Published<E, S>, N: Array<S>, const U: usize> Model for PassAt<E, 
 }
 
 impl<E, S, P: Published<E, S>, N: Array<S>, const U: usize> PassAt<E, S, P, N, U> {
+    /// A session with this right, which has counted none of its own entries but those that were seen, and all its commands.
+    pub(crate) fn new(
+        session: u64,
+        serial: u64,
+        seen: History<E, At<S, N, U>>,
+        right: SessionRight<E, S, At<S, N, U>>,
+    ) -> PassAt<E, S, P, N, U>
+        requires session { right.session ≡ session }
+        requires serial { serial ≡ right.commands + 1 }
+        requires count { right.count ≤ counted P.own session seen }
+        requires legal { P.legal (N.opening U) seen }
+        ensures { result ≡ record { session = session; serial = serial; seen = seen } }
+    {
+        PassAt {
+            session,
+            serial,
+            seen,
+            right,
+            of: PhantomData,
+        }
+    }
+
     /// What it has seen. The right is let go.
     pub(crate) fn into_history(self) -> History<E, At<S, N, U>>
         ensures { result ≡ self.seen }
@@ -242,22 +265,10 @@ pub fn meet<E, S, P: Published<E, S>, N: Array<S>, const U: usize>(
         serial: second_serial,
         seen: _,
         right: second_right,
-        of,
+        of: _,
     } = two;
     (
-        PassAt {
-            session: first,
-            serial: first_serial,
-            seen: seen.again(),
-            right: first_right,
-            of: PhantomData,
-        },
-        PassAt {
-            session: second,
-            serial: second_serial,
-            seen,
-            right: second_right,
-            of,
-        },
+        PassAt::new(first, first_serial, seen.again(), first_right),
+        PassAt::new(second, second_serial, seen, second_right),
     )
 }

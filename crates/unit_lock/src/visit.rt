@@ -3,13 +3,15 @@ ghost use Rattle.std.specs.Prelude.{◌≡◌, ◌+◌, ◌<◌, ◌^◌, ◌++�
 ghost use Rattle.status.specs.Views.{IsOwn, counted};
 ghost use Rattle.unit_lock.specs.Calls.{IsAdded, IsRefused, held};
 
+use crate::entries::Resets;
+use crate::machine::Machine;
 use crate::pass::PassAt;
-use crate::records::{Posted, Records, Turn, put_back};
+use crate::records::{Posted, Records};
 use logbook::Plain;
-use status::{Published, Row};
-use std::marker::{Model, PhantomData};
+use status::{Holder, Published, Row};
+use std::marker::Model;
 use std::sync::Wait;
-use unit_sequence::{Answer, Array, At, History};
+use unit_sequence::{Answer, Array, At, History, Recorder};
 
 /// A session's pass, whose right is in hand, beside the whole history: nothing of the session's own came since its pass saw
 /// it. Contracts see the pass and the history.
@@ -18,7 +20,8 @@ pub(crate) struct Visit<E, S, P: Published<E, S>, N: Array<S>, const U: usize> {
     session: u64,
     serial: u64,
     seen: History<E, At<S, N, U>>,
-    turn: Turn<E, S, P, At<S, N, U>>,
+    recorder: Recorder<E, At<S, N, U>>,
+    holder: Holder<E, S, P, At<S, N, U>>,
 }
 
 impl<E, S, P: Published<E, S>, N: Array<S>, const U: usize> Model for Visit<E, S, P, N, U> {
@@ -29,26 +32,26 @@ impl<E, S, P: Published<E, S>, N: Array<S>, const U: usize> Model for Visit<E, S
 
     ghost Value = { Visiting E };
 
-    ghost view = { λ v. record { pass = record { session = v.session; serial = v.serial; seen = v.seen }; all = v.turn.seen } };
+    ghost view = { λ v. record { pass = record { session = v.session; serial = v.serial; seen = v.seen }; all = v.recorder } };
 
-    ghost invariant = { λ v. (v.turn.claim.session ≡ v.session) × (v.serial ≡ v.turn.claim.commands + 1)
-        × (v.turn.claim.count ≤ counted P.own v.session v.seen) × (counted P.own v.session v.turn.seen ≡ v.turn.claim.count)
-        × IsPrefix v.seen v.turn.seen };
+    ghost invariant = { λ v. (v.holder.seen ≡ v.recorder) × (v.holder.claim.session ≡ v.session)
+        × (v.serial ≡ v.holder.claim.commands + 1) × (v.holder.claim.count ≤ counted P.own v.session v.seen)
+        × (counted P.own v.session v.recorder ≡ v.holder.claim.count) × IsPrefix v.seen v.recorder };
 }
 
-impl<E, S, P: Published<E, S>, N: Array<S>, const U: usize> Visit<E, S, P, N, U> {
-    /// Takes the records out of their place, and the right of a pass in hand. The pass's serial is that behind the session's commands.
-    pub(crate) fn begin<A, M: Plain<A, E, Answer>, R: Wait>(
+impl<E, S, X: Machine<E, S>, N: Array<S>, const U: usize> Visit<E, S, X, N, U> {
+    /// Takes the records out of their place, and the right of a pass in hand; and finds that what the pass has seen begins the
+    /// history, that nothing of the session's own came since, and that the pass's serial is that behind the session's commands.
+    pub(crate) fn begin<R: Wait>(
         rt: &R,
-        posted: &Posted<E, S, P, At<S, N, U>>,
-        records: &mut Option<Records<E, S, P, At<S, N, U>>>,
-        pass: PassAt<E, S, P, N, U>,
-        any: &A,
-    ) -> Visit<E, S, P, N, U>
+        posted: &Posted<E, S, X, At<S, N, U>>,
+        records: &mut Option<Records<E, S, X, At<S, N, U>>>,
+        pass: PassAt<E, S, X, N, U>,
+    ) -> Visit<E, S, X, N, U>
         requires { IsSome records.old }
         ensures pass { result.pass ≡ pass }
         ensures all { result.all ≡ held records.old }
-        ensures serial { counted P.command pass.session (held records.old) + 1 ≡ pass.serial }
+        ensures serial { counted X.command pass.session (held records.old) + 1 ≡ pass.serial }
     {
         let PassAt {
             session,
@@ -57,16 +60,24 @@ impl<E, S, P: Published<E, S>, N: Array<S>, const U: usize> Visit<E, S, P, N, U>
             right,
             of: _,
         } = pass;
-        let records = records.take().unwrap();
-        let turn = records.begin::<A, M, R>(rt, posted, &seen, right, any);
+        let Records {
+            recorder,
+            publisher,
+        } = records.take().unwrap();
+        // The look adds no entry, so it does not matter which one it is made with.
+        let recorder = recorder.covers::<u64, Resets<S, X>>(&posted.word, &seen, &session);
+        let holder = publisher.take::<R>(rt, &posted.board, right);
         Visit {
             session,
             serial,
             seen,
-            turn,
+            recorder,
+            holder,
         }
     }
+}
 
+impl<E, S, P: Published<E, S>, N: Array<S>, const U: usize> Visit<E, S, P, N, U> {
     /// Adds an entry of the session's own, after which it has this serial, puts the records back in their place, and gives the
     /// pass back, which has seen the entry.
     pub(crate) fn finish<A, M: Plain<A, E, Answer>, R: Wait>(
@@ -93,18 +104,37 @@ impl<E, S, P: Published<E, S>, N: Array<S>, const U: usize> Visit<E, S, P, N, U>
             session,
             serial: _,
             seen: _,
-            turn,
+            recorder,
+            holder,
         } = self;
-        let (records, right) = turn.finish::<A, M, R>(rt, posted, row, about);
-        let seen = records.history();
-        put_back(place, records);
-        PassAt {
-            session,
-            serial,
-            seen,
-            right,
-            of: PhantomData,
-        }
+        let recorder = recorder.add::<A, M>(&posted.word, about);
+        let (publisher, right) = holder.publish::<A, M, R>(rt, &posted.board, row, about);
+        let seen = Records::put_in(place, recorder, publisher);
+        PassAt::new(session, serial, seen, right)
+    }
+
+    /// The same with an entry that is no command, so that the serial stays.
+    pub(crate) fn note<M: Plain<u64, E, Answer>, R: Wait>(
+        self,
+        rt: &R,
+        posted: &Posted<E, S, P, At<S, N, U>>,
+        place: &mut Option<Records<E, S, P, At<S, N, U>>>,
+        row: Row,
+    ) -> PassAt<E, S, P, N, U>
+        requires room { length self.all + 1 < 2 ^ 64 }
+        requires own { IsOwn P.own P.command self.pass.session (M.ask self.pass.session) }
+        requires uncounted { P.command self.pass.session (M.ask self.pass.session) ≡ 0 }
+        requires legal { P.legal (N.opening U) (self.all ++ M.ask self.pass.session ∷ []) }
+        requires row { row ≡ P.rows (N.opening U) (self.all ++ M.ask self.pass.session ∷ []) }
+        ensures records { place.new ≡ Some result.seen }
+        ensures seen { result.seen ≡ self.all ++ M.ask self.pass.session ∷ [] }
+        ensures added { IsAdded P.own (P.legal (N.opening U)) self.pass result
+            (λ h e. (h ≡ self.all) × (e ≡ M.ask self.pass.session)) }
+        ensures next { (result.session ≡ self.pass.session) × (result.serial ≡ self.pass.serial) }
+    {
+        let session = self.session;
+        let serial = self.serial;
+        self.finish::<u64, M, R>(rt, posted, place, row, &session, serial)
     }
 
     /// Puts the records back in their place, and gives the pass back, which has seen all of the history.
@@ -122,17 +152,11 @@ impl<E, S, P: Published<E, S>, N: Array<S>, const U: usize> Visit<E, S, P, N, U>
             session,
             serial,
             seen: _,
-            turn,
+            recorder,
+            holder,
         } = self;
-        let (records, right) = turn.give_back(posted);
-        let seen = records.history();
-        put_back(place, records);
-        PassAt {
-            session,
-            serial,
-            seen,
-            right,
-            of: PhantomData,
-        }
+        let (publisher, right) = holder.give_back(&posted.board);
+        let seen = Records::put_in(place, recorder, publisher);
+        PassAt::new(session, serial, seen, right)
     }
 }

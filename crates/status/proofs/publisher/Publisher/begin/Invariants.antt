@@ -1,7 +1,7 @@
 use Rattle.std.proofs.Common.{◌++◌, ◌∷◌, [], length}
 use Rattle.crossbeam_utils.specs.Seq.{cell_view}
 use Rattle.status.specs.Views.{holder}
-use Rattle.status.proofs.moves.publish_new.Given as goal
+use Rattle.status.proofs.publisher.Publisher.begin.Given as goal
 
 abbrev pub ghosts-become_as : goal.ghosts-become_as
 ghosts-become_as g a =
