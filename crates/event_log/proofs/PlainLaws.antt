@@ -12,7 +12,7 @@ use Rattle.std.proofs.lemmas.Bool.Decides.{nat_tests}
 use Rattle.std.proofs.lemmas.List.Folds.{list_all-append}
 use Rattle.event_log.specs.Words.{access_text, session_type_text, stayed_text, action_text, operation_text, part_text, call_text, resource_text}
 use Rattle.event_log.specs.Words.{unusable_text, named, statuses, status_text, rejects, reject_text, errors, error_text}
-use Rattle.event_log.specs.Text.{is_plain, are_plain, hex_digit, escaped, quoted, joined, hex, initiator_in, path_in, by_in, cause_in}
+use Rattle.event_log.specs.Text.{is_plain, are_plain, hex_digit, escaped, escaped_by, quoted, joined, hex, initiator_in, path_in, by_in, cause_in}
 use Rattle.event_log.specs.Text.{why_in, session_in, error_in}
 use Rattle.event_log.specs.Text.{parts, text_of}
 use Rattle.event_log.specs.declared.words.Cause.{Cause}
@@ -99,35 +99,36 @@ address a =
 
 -- ---- names
 
-pub kept : (b : ℕ) (t : Bool) (x : List ℕ) → is_plain b ≡ t → are_plain x ≡ true → are_plain (if t then b ∷ [] else x) ≡ true
+kept : (b : ℕ) (t : Bool) (x : List ℕ) → is_plain b ≡ t → are_plain x ≡ true → are_plain (if t then b ∷ [] else x) ≡ true
 kept b true x e p = both (is_plain b) true e refl
 kept b false x e p = p
 
-abbrev hidden_text : ℕ → List ℕ
-hidden_text b = 92 ∷ 120 ∷ hex_digit (b / 16 % 16) ∷ hex_digit (b % 16) ∷ []
+abbrev hidden_text : List ℕ → ℕ → List ℕ
+hidden_text front b = front ++ hex_digit (b / 16 % 16) ∷ hex_digit (b % 16) ∷ []
 
-abbrev visible : ℕ → List ℕ
-visible b = if is_plain b then b ∷ [] else hidden_text b
+abbrev visible : List ℕ → ℕ → List ℕ
+visible front b = if is_plain b then b ∷ [] else hidden_text front b
 
-abbrev behind_a_quote : ℕ → List ℕ
-behind_a_quote b = if nat_eq b 92 then codes "\\\\" else visible b
+abbrev behind_a_quote : List ℕ → ℕ → List ℕ
+behind_a_quote front b = if nat_eq b 92 then codes "\\\\" else visible front b
 
-pub two_digits : (b : ℕ) → are_plain (hex_digit (b / 16 % 16) ∷ hex_digit (b % 16) ∷ []) ≡ true
+two_digits : (b : ℕ) → are_plain (hex_digit (b / 16 % 16) ∷ hex_digit (b % 16) ∷ []) ≡ true
 two_digits b =
     both (is_plain (hex_digit (b / 16 % 16))) (are_plain (hex_digit (b % 16) ∷ [])) (glyph (b / 16 % 16) (omega arith))
     (both (is_plain (hex_digit (b % 16))) true (glyph (b % 16) (omega arith)) refl)
 
-one : (b : ℕ) → are_plain (escaped b) ≡ true
-one b =
-    choose (nat_eq b 34) (codes "\\\"") (behind_a_quote b) refl (choose (nat_eq b 92) (codes "\\\\") (visible b) refl
-    (kept b (is_plain b) (hidden_text b) refl (two_digits b)))
+one : (front : List ℕ) (b : ℕ) → are_plain front ≡ true → are_plain (escaped_by front b) ≡ true
+one front b p =
+    choose (nat_eq b 34) (codes "\\\"") (behind_a_quote front b) refl
+    (choose (nat_eq b 92) (codes "\\\\") (visible front b) refl
+    (kept b (is_plain b) (hidden_text front b) refl (join front _ p (two_digits b))))
 
-many : (bytes : List ℕ) → are_plain (flat_map escaped bytes) ≡ true
-many [] = refl
-many (b ∷ bytes) = join (escaped b) _ (one b) (many bytes)
+pub many : (front bytes : List ℕ) → are_plain front ≡ true → are_plain (flat_map (escaped_by front) bytes) ≡ true
+many front [] p = refl
+many front (b ∷ bytes) p = join (escaped_by front b) _ (one front b p) (many front bytes p)
 
 quoted_plain : (bytes : List ℕ) → are_plain (quoted bytes) ≡ true
-quoted_plain bytes = join (flat_map escaped bytes) (34 ∷ []) (many bytes) refl
+quoted_plain bytes = join (flat_map escaped bytes) (34 ∷ []) (many (codes "\\x") bytes refl) refl
 
 -- ---- words
 

@@ -39,13 +39,17 @@ are_plain bytes = list_all is_plain bytes
 abbrev pub hex_digit : ℕ → ℕ
 hex_digit d = if nat_lt d 10 then 48 + d else 87 + d
 
--- a quote and a backslash behind a backslash; a byte that is no printing character as `\xHH`
-abbrev pub escaped : ℕ → List ℕ
-escaped b =
+-- a quote and a backslash behind a backslash; a byte that is no printing character as this front and two digits
+abbrev pub escaped_by : List ℕ → ℕ → List ℕ
+escaped_by front b =
     if nat_eq b 34 then codes "\\\"" else
     if nat_eq b 92 then codes "\\\\" else
     if is_plain b then b ∷ [] else
-    92 ∷ 120 ∷ hex_digit (b / 16 % 16) ∷ hex_digit (b % 16) ∷ []
+    front ++ hex_digit (b / 16 % 16) ∷ hex_digit (b % 16) ∷ []
+
+-- in the log that front is `\x`
+abbrev pub escaped : ℕ → List ℕ
+escaped = escaped_by (codes "\\x")
 
 abbrev pub quoted : List ℕ → List ℕ
 quoted bytes = 34 ∷ (flat_map escaped bytes ++ 34 ∷ [])

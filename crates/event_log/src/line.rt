@@ -2,7 +2,7 @@
 ghost use Rattle.std.specs.Prelude.{◌≡◌, ◌++◌, ◌∷◌, [], ◌<◌, ◌/◌, ◌%◌, codes, map, OnOk};
 ghost use Rattle.std.specs.String.{string_bytes};
 ghost use Rattle.std.specs.List.{flat_map};
-ghost use Rattle.event_log.specs.Text.{escaped, hex_digit, joined, piece_text, quoted};
+ghost use Rattle.event_log.specs.Text.{escaped, escaped_by, hex_digit, joined, piece_text, quoted};
 
 use std::alloc::AllocError;
 use std::net::SocketAddrV4;
@@ -26,8 +26,8 @@ fn hex_digit_of(d: u8) -> char
     char::from(if d < 10 { b'0' + d } else { b'a' - 10 + d })
 }
 
-/// Puts a byte that is no printing character behind what a line has: this front, and two digits.
-pub fn hide(line: &mut String, front: &str, b: u8) -> Result<(), AllocError>
+// Puts a byte that is no printing character behind what a line has: this front, and two digits.
+fn hide(line: &mut String, front: &str, b: u8) -> Result<(), AllocError>
     ensures { OnOk result (string_bytes line.new ≡ ((string_bytes line.old ++ front.now) ++ hex_digit (b / 16 % 16) ∷ [])
         ++ hex_digit (b % 16) ∷ []) }
 {
@@ -37,25 +37,33 @@ pub fn hide(line: &mut String, front: &str, b: u8) -> Result<(), AllocError>
 }
 
 // A byte of a name.
-fn byte(line: &mut String, b: u8) -> Result<(), AllocError>
-    ensures { OnOk result (string_bytes line.new ≡ string_bytes line.old ++ escaped b) }
+fn byte(line: &mut String, front: &str, b: u8) -> Result<(), AllocError>
+    ensures { OnOk result (string_bytes line.new ≡ string_bytes line.old ++ escaped_by front.now b) }
 {
     match b {
         b'"' => line.push_str("\\\""),
         b'\\' => line.push_str("\\\\"),
         32..127 => line.push(char::from(b)),
-        _ => hide(line, "\\x", b),
+        _ => hide(line, front, b),
     }
+}
+
+/// Puts a name behind what a line has, escaped as it stands between quotes; a byte that is no printing character by this front and two
+/// digits.
+pub fn escape_by(line: &mut String, front: &str, name: &[u8]) -> Result<(), AllocError>
+    ensures { OnOk result (string_bytes line.new ≡ string_bytes line.old ++ flat_map (escaped_by front.now) name.now) }
+{
+    for b in name {
+        byte(line, front, *b)?;
+    }
+    Ok(())
 }
 
 /// Puts a name behind what a line has, escaped as it stands between quotes.
 pub fn escape(line: &mut String, name: &[u8]) -> Result<(), AllocError>
     ensures { OnOk result (string_bytes line.new ≡ string_bytes line.old ++ flat_map escaped name.now) }
 {
-    for b in name {
-        byte(line, *b)?;
-    }
-    Ok(())
+    escape_by(line, "\\x", name)
 }
 
 // A name between quotes.

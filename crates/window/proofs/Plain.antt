@@ -1,36 +1,18 @@
 -- A line has printing characters alone, whatever a host or a path is called.
-use Rattle.std.proofs.Common.{◌≡◌, ℕ, ◌/◌, ◌%◌, List, [], ◌∷◌, ◌++◌, true, refl}
-use Rattle.std.specs.Prelude.{nat_eq, if◌then◌else◌, codes}
+use Rattle.std.proofs.Common.{◌≡◌, ℕ, List, [], ◌∷◌, ◌++◌, true, refl}
+use Rattle.std.specs.Prelude.{codes}
 use Rattle.std.specs.Fmt.{decimal}
-use Rattle.event_log.specs.Text.{is_plain, are_plain, hex_digit, hex}
-use Rattle.event_log.proofs.PlainLaws.{choose, hexed, join, kept, number, two_digits}
-use Rattle.window.specs.Text.{spelled, word, label_onto, labels_onto, amount_onto, heading_onto, sample_onto}
+use Rattle.event_log.specs.Text.{are_plain, hex}
+use Rattle.event_log.proofs.PlainLaws.{hexed, join, number}
+use Rattle.event_log.proofs.PlainLaws.many as escapes
+use Rattle.window.specs.Text.{word, label_onto, labels_onto, amount_onto, heading_onto, sample_onto}
 use Rattle.window.specs.declared.line.Label.{Label}
 use Rattle.window.specs.declared.line.Label.TheVariants as labels
 use Rattle.window.specs.declared.line.Amount.{Amount}
 use Rattle.window.specs.declared.line.Amount.TheVariants as amounts
 
--- ---- texts that may come from outside
-
-abbrev hidden_text : ℕ → List ℕ
-hidden_text b = 92 ∷ 92 ∷ 120 ∷ hex_digit (b / 16 % 16) ∷ hex_digit (b % 16) ∷ []
-
-abbrev visible : ℕ → List ℕ
-visible b = if is_plain b then b ∷ [] else hidden_text b
-
-abbrev behind_a_quote : ℕ → List ℕ
-behind_a_quote b = if nat_eq b 92 then codes "\\\\" else visible b
-
-one : (b : ℕ) → are_plain (spelled b) ≡ true
-one b =
-    choose (nat_eq b 34) (codes "\\\"") (behind_a_quote b) refl (choose (nat_eq b 92) (codes "\\\\") (visible b) refl
-    (kept b (is_plain b) (hidden_text b) refl (two_digits b)))
-
 many : (bytes : List ℕ) → are_plain (word bytes) ≡ true
-many [] = refl
-many (b ∷ bytes) = join (spelled b) (word bytes) (one b) (many bytes)
-
--- ---- lines
+many bytes = escapes (codes "\\\\x") bytes refl
 
 pair : (text name between value : List ℕ)
     → are_plain text ≡ true → are_plain between ≡ true → are_plain value ≡ true

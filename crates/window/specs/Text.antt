@@ -1,24 +1,17 @@
 -- The text of what is measured, in the text form of Prometheus (0.0.4): a line behind the other.
-use Rattle.std.specs.Prelude.{ℕ, ◌/◌, ◌%◌, Bool, nat_eq, if◌then◌else◌, List, [], ◌∷◌, ◌++◌, codes}
+use Rattle.std.specs.Prelude.{ℕ, List, [], ◌∷◌, ◌++◌, codes}
 use Rattle.std.specs.List.{flat_map}
 use Rattle.std.specs.Fmt.{decimal}
-use Rattle.event_log.specs.Text.{is_plain, hex_digit, hex}
+use Rattle.event_log.specs.Text.{escaped_by, hex}
 use Rattle.window.specs.declared.line.Label.{Label}
 use Rattle.window.specs.declared.line.Label.TheVariants as labels
 use Rattle.window.specs.declared.line.Amount.{Amount}
 use Rattle.window.specs.declared.line.Amount.TheVariants as amounts
 
--- a byte of a text that may come from outside: a quote and a backslash behind a backslash, and a byte that is no printing character
--- as two backslashes, which stand for one, with `xHH` behind them
-abbrev pub spelled : ℕ → List ℕ
-spelled b =
-    if nat_eq b 34 then codes "\\\"" else
-    if nat_eq b 92 then codes "\\\\" else
-    if is_plain b then b ∷ [] else
-    92 ∷ 92 ∷ 120 ∷ hex_digit (b / 16 % 16) ∷ hex_digit (b % 16) ∷ []
-
+-- a text that may come from outside, escaped as in the log, but a byte that is no printing character as two backslashes, which stand
+-- for one, with `xHH` behind them
 abbrev pub word : List ℕ → List ℕ
-word bytes = flat_map spelled bytes
+word bytes = flat_map (escaped_by (codes "\\\\x")) bytes
 
 -- the name of a label, an equals sign, and its value between quotes; a comma may stand behind the last one too
 abbrev pub label_onto : List ℕ → Label → List ℕ

@@ -1,10 +1,9 @@
 //! The lines in which Prometheus reads what is measured.
 ghost use Rattle.std.specs.Prelude.{◌≡◌, ◌++◌, ◌∷◌, [], codes, OnOk};
 ghost use Rattle.std.specs.String.{string_bytes};
-ghost use Rattle.std.specs.List.{flat_map};
-ghost use Rattle.window.specs.Text.{amount_onto, heading_onto, label_onto, labels_onto, sample_onto, spelled, word};
+ghost use Rattle.window.specs.Text.{amount_onto, heading_onto, label_onto, labels_onto, sample_onto, word};
 
-use event_log::hide;
+use event_log::escape_by;
 use std::alloc::AllocError;
 
 /// A label of a sample: its name, and its value.
@@ -25,26 +24,11 @@ pub enum Amount {
     Micros(u64),
 }
 
-// A byte of a text that may come from outside.
-fn byte(text: &mut String, b: u8) -> Result<(), AllocError>
-    ensures { OnOk result (string_bytes text.new ≡ string_bytes text.old ++ spelled b) }
-{
-    match b {
-        b'"' => text.push_str("\\\""),
-        b'\\' => text.push_str("\\\\"),
-        32..127 => text.push(char::from(b)),
-        _ => hide(text, "\\\\x", b),
-    }
-}
-
 // A text that may come from outside.
 fn put_word(text: &mut String, bytes: &[u8]) -> Result<(), AllocError>
     ensures { OnOk result (string_bytes text.new ≡ string_bytes text.old ++ word bytes.now) }
 {
-    for b in bytes {
-        byte(text, *b)?;
-    }
-    Ok(())
+    escape_by(text, "\\\\x", bytes)
 }
 
 // A label whose value is a word.
