@@ -135,7 +135,7 @@ fn controller_of(
     }
     let mut sessions = 0u64;
     for session in &seen.sessions {
-        if u64::from(session.path.tag) == tag {
+        if u64::from(session.who.path.tag) == tag {
             sessions = sessions.saturating_add(1);
         }
     }

@@ -18,7 +18,7 @@ const TRIES: u32 = 1000;
 const STRIDE: u64 = 8;
 
 /// Who a session is: its initiator port, by which path it came, its TSIH, what it is for, and since when after the beginning of 1970.
-#[derive(Drop)]
+#[derive(Clone, Drop)]
 pub struct Visit {
     pub name: Vec<u8>,
     pub isid: u64,
@@ -113,15 +113,9 @@ pub struct Meters {
 /// What was seen of a session.
 #[derive(Drop)]
 pub struct SessionSeen {
-    pub name: Vec<u8>,
-    pub isid: u64,
-    pub path: Path,
-    pub tsih: u16,
-    pub kind: SessionType,
-    pub since: Duration,
-    /// Its last command, and for how many microseconds it has ended.
-    pub last: Option<Operation>,
-    pub idle: u64,
+    pub who: Visit,
+    /// The operation of its last command, and for how many microseconds that has ended; none: it had no command yet.
+    pub last: Option<(Operation, u64)>,
     pub commands: u64,
 }
 
@@ -256,7 +250,7 @@ impl Hand {
 
 impl Meter {
     // What is seen of it.
-    fn seen<R: Wait>(&self, rt: &R, alloc: Global, now: u64) -> Result<SessionSeen, AllocError> {
+    fn seen<R: Wait>(&self, rt: &R, now: u64) -> Result<SessionSeen, AllocError> {
         let mut commands = 0u64;
         let (last, ended) = {
             let shown = self.shown.lock(rt);
@@ -266,14 +260,8 @@ impl Meter {
             (shown.last, shown.ended)
         };
         Ok(SessionSeen {
-            name: self.who.name.to_vec(alloc)?,
-            isid: self.who.isid,
-            path: self.who.path,
-            tsih: self.who.tsih,
-            kind: self.who.kind,
-            since: self.who.since,
-            last,
-            idle: now.saturating_sub(ended),
+            who: self.who.clone()?,
+            last: last.map(|operation| (operation, now.saturating_sub(ended))),
             commands,
         })
     }
@@ -398,7 +386,7 @@ impl Meters {
         }
         for meter in &live {
             meter.age(now, &mut oldest);
-            sessions.push(meter.seen(rt, alloc, now)?)?;
+            sessions.push(meter.seen(rt, now)?)?;
         }
         let happened = *self.happened.lock(rt);
         Ok(Seen {

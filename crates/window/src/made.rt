@@ -85,18 +85,19 @@ pub fn path(
 
 /// A session.
 pub fn session(alloc: Global, seen: &SessionSeen) -> Result<SessionView, AllocError> {
-    let (isid, portal, peer) = (seen.isid, seen.path.portal, seen.path.from);
+    let who = &seen.who;
+    let (isid, portal, peer) = (who.isid, who.path.portal, who.path.from);
     Ok(SessionView {
-        initiator: spelled(alloc, &seen.name)?,
+        initiator: spelled(alloc, &who.name)?,
         isid: format!(in alloc; "0x{isid:x}")?,
-        tsih: u64::from(seen.tsih),
-        kind: seen.kind.text(),
-        controller: u64::from(seen.path.tag),
+        tsih: u64::from(who.tsih),
+        kind: who.kind.text(),
+        controller: u64::from(who.path.tag),
         portal: format!(in alloc; "{portal}")?,
         peer: format!(in alloc; "{peer}")?,
-        since: seen.since.as_secs(),
-        last_command: seen.last.map(|operation| operation.text()),
-        idle_micros: seen.last.map(|_| seen.idle),
+        since: who.since.as_secs(),
+        last_command: seen.last.map(|(operation, _)| operation.text()),
+        idle_micros: seen.last.map(|(_, idle)| idle),
         commands: seen.commands,
     })
 }
