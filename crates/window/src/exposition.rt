@@ -1,6 +1,7 @@
 //! What is measured, in lines.
 
 use crate::headings::{Heading, OF_ARRAY, OF_ROUTES, OF_UNITS, OfArray, OfPath, OfUnit};
+use crate::line::Amount::{Count, Micros};
 use crate::line::{Amount, Label, put_help, put_sample, put_type};
 use crate::view::{ArrayView, Commands, Controller, NamedCount, PathView, SessionView, UnitView};
 use std::alloc::{AllocError, Global};
@@ -34,27 +35,23 @@ fn put(
     put_sample(text, name, labels, amount)
 }
 
-fn count(
-    text: &mut String,
-    name: &str,
-    labels: &[Label<'_>],
-    count: u64,
-) -> Result<(), AllocError> {
-    put(text, name, labels, Amount::Count(count))
-}
-
 // The version, and the target's name.
 fn build(text: &mut String, name: &str, view: &ArrayView) -> Result<(), AllocError> {
     let version = Label::Word("version", view.version);
     let target = Label::Name("target", view.target.as_bytes());
     let array = Label::Number("array", view.array);
-    count(text, name, &[version, target, array], 1)
+    put(text, name, &[version, target, array], Count(1))
 }
 
 // Logins that were refused, by what was lacking.
 fn refused(text: &mut String, name: &str, tallies: &[NamedCount]) -> Result<(), AllocError> {
     for tally in tallies {
-        count(text, name, &[Label::Word("cause", tally.what)], tally.count)?;
+        put(
+            text,
+            name,
+            &[Label::Word("cause", tally.what)],
+            Count(tally.count),
+        )?;
     }
     Ok(())
 }
@@ -63,7 +60,7 @@ fn refused(text: &mut String, name: &str, tallies: &[NamedCount]) -> Result<(), 
 fn sessions(text: &mut String, name: &str, controllers: &[Controller]) -> Result<(), AllocError> {
     for controller in controllers {
         let label = Label::Number("controller", controller.controller);
-        count(text, name, &[label], controller.sessions)?;
+        put(text, name, &[label], Count(controller.sessions))?;
     }
     Ok(())
 }
@@ -82,7 +79,7 @@ fn labels_of(session: &SessionView) -> [Label<'_>; 5] {
 // Commands of each session.
 fn of_sessions(text: &mut String, name: &str, sessions: &[SessionView]) -> Result<(), AllocError> {
     for session in sessions {
-        count(text, name, &labels_of(session), session.commands)?;
+        put(text, name, &labels_of(session), Count(session.commands))?;
     }
     Ok(())
 }
@@ -92,10 +89,10 @@ fn of_array(text: &mut String, view: &ArrayView, what: OfArray) -> Result<(), Al
     let name = begin(text, what.heading())?;
     match what {
         OfArray::Build => build(text, name, view),
-        OfArray::Start => count(text, name, &[], view.since),
-        OfArray::Uptime => put(text, name, &[], Amount::Micros(view.uptime_micros)),
-        OfArray::Problems => count(text, name, &[], view.problems.len() as u64),
-        OfArray::Logins => count(text, name, &[], view.logins),
+        OfArray::Start => put(text, name, &[], Count(view.since)),
+        OfArray::Uptime => put(text, name, &[], Micros(view.uptime_micros)),
+        OfArray::Problems => put(text, name, &[], Count(view.problems.len() as u64)),
+        OfArray::Logins => put(text, name, &[], Count(view.logins)),
         OfArray::RefusedLogins => refused(text, name, &view.refused_logins),
         OfArray::Sessions => sessions(text, name, &view.controllers),
         OfArray::SessionCommands => of_sessions(text, name, &view.sessions),
@@ -114,7 +111,7 @@ fn path_label(path: &PathView) -> Label<'static> {
 // The disk of a unit.
 fn disk(text: &mut String, name: &str, unit: &UnitView) -> Result<(), AllocError> {
     let disk = Label::Name("disk", unit.disk.as_bytes());
-    count(text, name, &[unit_label(unit), disk], 1)
+    put(text, name, &[unit_label(unit), disk], Count(1))
 }
 
 // The calls of a file of a unit that failed.
@@ -131,7 +128,7 @@ fn failures(
             Label::Word("file", file),
             Label::Word("call", tally.what),
         ];
-        count(text, name, labels, tally.count)?;
+        put(text, name, labels, Count(tally.count))?;
     }
     Ok(())
 }
@@ -152,31 +149,31 @@ fn all_failures(text: &mut String, name: &str, unit: &UnitView) -> Result<(), Al
 fn troubles(text: &mut String, name: &str, unit: &UnitView) -> Result<(), AllocError> {
     for tally in &unit.troubles {
         let labels = &[unit_label(unit), Label::Word("trouble", tally.what)];
-        count(text, name, labels, tally.count)?;
+        put(text, name, labels, Count(tally.count))?;
     }
     Ok(())
 }
 
-// A count of a unit.
-fn of_one(text: &mut String, name: &str, unit: &UnitView, number: u64) -> Result<(), AllocError> {
-    count(text, name, &[unit_label(unit)], number)
-}
-
-// A time of a unit, in microseconds.
-fn time(text: &mut String, name: &str, unit: &UnitView, micros: u64) -> Result<(), AllocError> {
-    put(text, name, &[unit_label(unit)], Amount::Micros(micros))
+// A number of a unit.
+fn of_one(
+    text: &mut String,
+    name: &str,
+    unit: &UnitView,
+    amount: Amount,
+) -> Result<(), AllocError> {
+    put(text, name, &[unit_label(unit)], amount)
 }
 
 // What is measured of a unit.
 fn of_unit(text: &mut String, name: &str, unit: &UnitView, what: OfUnit) -> Result<(), AllocError> {
     match what {
-        OfUnit::Owner => of_one(text, name, unit, unit.owner),
-        OfUnit::Generation => of_one(text, name, unit, unit.generation),
-        OfUnit::Registrants => of_one(text, name, unit, unit.registrants),
-        OfUnit::ReservationType => of_one(text, name, unit, unit.reservation_type),
-        OfUnit::Entries => of_one(text, name, unit, unit.entries),
-        OfUnit::Bytes => of_one(text, name, unit, BLOCK.saturating_mul(unit.blocks)),
-        OfUnit::OldestCommand => time(text, name, unit, unit.oldest_command_micros),
+        OfUnit::Owner => of_one(text, name, unit, Count(unit.owner)),
+        OfUnit::Generation => of_one(text, name, unit, Count(unit.generation)),
+        OfUnit::Registrants => of_one(text, name, unit, Count(unit.registrants)),
+        OfUnit::ReservationType => of_one(text, name, unit, Count(unit.reservation_type)),
+        OfUnit::Entries => of_one(text, name, unit, Count(unit.entries)),
+        OfUnit::Bytes => of_one(text, name, unit, Count(BLOCK.saturating_mul(unit.blocks))),
+        OfUnit::OldestCommand => of_one(text, name, unit, Micros(unit.oldest_command_micros)),
         OfUnit::Disk => disk(text, name, unit),
         OfUnit::Failures => all_failures(text, name, unit),
         OfUnit::Troubles => troubles(text, name, unit),
@@ -200,7 +197,12 @@ fn of_both(
     path: &PathView,
     number: u64,
 ) -> Result<(), AllocError> {
-    count(text, name, &[unit_label(unit), path_label(path)], number)
+    put(
+        text,
+        name,
+        &[unit_label(unit), path_label(path)],
+        Count(number),
+    )
 }
 
 fn of_three(
@@ -212,7 +214,7 @@ fn of_three(
     number: u64,
 ) -> Result<(), AllocError> {
     let labels = &[unit_label(unit), path_label(path), label];
-    count(text, name, labels, number)
+    put(text, name, labels, Count(number))
 }
 
 // How many commands ended with CHECK CONDITION and this sense key.
@@ -309,9 +311,14 @@ fn buckets(text: &mut String, unit: &UnitView, path: &PathView) -> Result<u64, A
 fn times(text: &mut String, unit: &UnitView, path: &PathView) -> Result<(), AllocError> {
     let all = buckets(text, unit, path)?;
     let labels = &[unit_label(unit), path_label(path)];
-    let sum = Amount::Micros(path.commands.micros);
+    let sum = Micros(path.commands.micros);
     put(text, "arrayd_command_duration_seconds_sum", labels, sum)?;
-    count(text, "arrayd_command_duration_seconds_count", labels, all)
+    put(
+        text,
+        "arrayd_command_duration_seconds_count",
+        labels,
+        Count(all),
+    )
 }
 
 // What is measured of a unit by a controller.
