@@ -97,19 +97,6 @@ fn converse<R: Clock, S: Collector>(
     Ok(())
 }
 
-// Answers a connection.
-fn answer<R: Clock + RandomSource, S: Collector>(
-    rt: &R,
-    alloc: Global,
-    collector: &S,
-    stream: &TcpStream,
-    began: Duration,
-) -> io::Result<()> {
-    let mut connection = connection(alloc, RandomState::new(rt)?);
-    let mut handler = Handler::new(alloc, collector);
-    converse(rt, &mut connection, &mut handler, stream, began)
-}
-
 // Ends a connection that was answered: what the peer still sends is read and dropped for a while, so that it has its answer.
 fn finish<R: Clock>(rt: &R, stream: &TcpStream) -> io::Result<()> {
     let mut stream = stream;
@@ -134,7 +121,9 @@ fn attend<R: Clock + RandomSource, S: Collector>(
 ) -> io::Result<()> {
     let _ = stream.set_nodelay(true);
     let began = rt.monotonic()?;
-    answer(rt, alloc, collector, stream, began)?;
+    let mut connection = connection(alloc, RandomState::new(rt)?);
+    let mut handler = Handler::new(alloc, collector);
+    converse(rt, &mut connection, &mut handler, stream, began)?;
     finish(rt, stream)
 }
 
