@@ -25,31 +25,24 @@ pub struct Handler<'a, S: Collector> {
 }
 
 // What kinds of texts there are.
-fn plain() -> HeaderValue {
-    HeaderValue::from_static("text/plain; charset=utf-8")
-}
+const PLAIN: &str = "text/plain; charset=utf-8";
 
-fn measured() -> HeaderValue {
-    HeaderValue::from_static("text/plain; version=0.0.4; charset=utf-8")
-}
+const MEASURED: &str = "text/plain; version=0.0.4; charset=utf-8";
 
-fn json() -> HeaderValue {
-    HeaderValue::from_static("application/json")
-}
+const JSON: &str = "application/json";
 
-fn page_kind() -> HeaderValue {
-    HeaderValue::from_static("text/html; charset=utf-8")
-}
+const HTML: &str = "text/html; charset=utf-8";
 
-// What the page may do: run what stands in it, and ask where it came from.
-fn policy() -> HeaderValue {
-    HeaderValue::from_static(
-        "default-src 'none'; style-src 'unsafe-inline'; script-src 'unsafe-inline'; connect-src 'self'; img-src data:",
-    )
-}
+/// What the page may do: run what stands in it, and ask where it came from.
+const POLICY: &str =
+    "default-src 'none'; style-src 'unsafe-inline'; script-src 'unsafe-inline'; connect-src 'self'; img-src data:";
 
 // Calls of the library, each by one that promises nothing: what these promise would be a part of each proof below.
-fn add(response: &mut Response, name: HeaderName, value: HeaderValue) -> Result<(), AllocError> {
+fn add_header(
+    response: &mut Response,
+    name: HeaderName,
+    value: HeaderValue,
+) -> Result<(), AllocError> {
     response.add_header(name, value)
 }
 
@@ -61,16 +54,23 @@ fn put_text(response: &mut Response, text: &[u8]) -> Result<(), AllocError> {
     response.body.put_slice(text)
 }
 
+// Adds a header whose value is written out.
+macro_rules! add {
+    ($response:expr, $name:expr, $value:expr) => {
+        add_header($response, $name, HeaderValue::from_static($value))
+    };
+}
+
 // Gives an answer its body.
 fn fill(response: &mut Response, kind: HeaderValue, body: Vec<u8>) -> Result<(), AllocError> {
-    add(response, header::CONTENT_TYPE, kind)?;
+    add_header(response, header::CONTENT_TYPE, kind)?;
     put_body(response, Bytes::from_vec(body)?)
 }
 
 // A short answer.
 fn say(response: &mut Response, status: StatusCode, text: &[u8]) -> Result<(), AllocError> {
     response.status = status;
-    add(response, header::CONTENT_TYPE, plain())?;
+    add!(response, header::CONTENT_TYPE, PLAIN)?;
     put_text(response, text)
 }
 
@@ -81,13 +81,17 @@ fn tell_metrics(
     response: &mut Response,
 ) -> Result<(), AllocError> {
     let text = metrics(alloc, view)?;
-    fill(response, measured(), text.into_bytes())
+    fill(
+        response,
+        HeaderValue::from_static(MEASURED),
+        text.into_bytes(),
+    )
 }
 
 // What is seen.
 fn tell_status(alloc: Global, view: &ArrayView, response: &mut Response) -> Result<(), AllocError> {
     let text = status(alloc, view)?;
-    fill(response, json(), text)
+    fill(response, HeaderValue::from_static(JSON), text)
 }
 
 // What is wrong.
@@ -96,13 +100,13 @@ fn tell_health(alloc: Global, view: &ArrayView, response: &mut Response) -> Resu
         response.status = StatusCode::SERVICE_UNAVAILABLE;
     }
     let text = health(alloc, view)?;
-    fill(response, plain(), text.into_bytes())
+    fill(response, HeaderValue::from_static(PLAIN), text.into_bytes())
 }
 
 // The page.
 fn tell_page(response: &mut Response) -> Result<(), AllocError> {
-    add(response, header::CONTENT_TYPE, page_kind())?;
-    add(response, header::CONTENT_SECURITY_POLICY, policy())?;
+    add!(response, header::CONTENT_TYPE, HTML)?;
+    add!(response, header::CONTENT_SECURITY_POLICY, POLICY)?;
     put_body(response, page())
 }
 
@@ -110,13 +114,9 @@ fn page() -> Bytes {
     Bytes::from_static(PAGE.as_bytes())
 }
 
-fn get_alone() -> HeaderValue {
-    HeaderValue::from_static("GET")
-}
-
 // That nothing can be done here.
 fn refuse(response: &mut Response) -> Result<(), AllocError> {
-    add(response, header::ALLOW, get_alone())?;
+    add!(response, header::ALLOW, "GET")?;
     say(response, StatusCode::METHOD_NOT_ALLOWED, b"only GET\n")
 }
 
@@ -147,23 +147,11 @@ impl<'a, S: Collector> Handler<'a, S> {
     }
 }
 
-fn close() -> HeaderValue {
-    HeaderValue::from_static("close")
-}
-
-fn no_store() -> HeaderValue {
-    HeaderValue::from_static("no-store")
-}
-
-fn no_sniff() -> HeaderValue {
-    HeaderValue::from_static("nosniff")
-}
-
 // What every answer says.
 fn put_common(response: &mut Response) -> Result<(), AllocError> {
-    add(response, header::CONNECTION, close())?;
-    add(response, header::CACHE_CONTROL, no_store())?;
-    add(response, header::X_CONTENT_TYPE_OPTIONS, no_sniff())
+    add!(response, header::CONNECTION, "close")?;
+    add!(response, header::CACHE_CONTROL, "no-store")?;
+    add!(response, header::X_CONTENT_TYPE_OPTIONS, "nosniff")
 }
 
 impl<S: Collector> Service for Handler<'_, S> {
