@@ -1,4 +1,6 @@
 //! Discovery sessions from their login on (RFC 7143, 4.3, 11.10 and appendix C).
+use crate::sessions::run::Form;
+
 // Each session answers what it is asked.
 pub fn served() -> &'static str {
     r#"
@@ -73,16 +75,6 @@ login 1
 asked begin iqn.2000-01.test:a 400001370000 Discovery
 end Rejected 04 04 00000001
 
-a SCSI Command
-login 1
-> LOGIN 7:37 "InitiatorName=iqn.2000-01.test:a\0SessionType=Discovery\0"
-> TEST_UNIT_READY
-> TEXT_REQUEST 7:10 "SendTargets=All\0"
-< LOGGED_IN 7:1F "MaxRecvDataSegmentLength=65536\0"
-< REJECT 2:04 24:00000002 rejected TEST_UNIT_READY
-asked begin iqn.2000-01.test:a 400001370000 Discovery
-end Rejected 04 01 00000001
-
 a write, behind SendTargets
 login 1
 > LOGIN 7:37 "InitiatorName=iqn.2000-01.test:a\0SessionType=Discovery\0"
@@ -93,24 +85,26 @@ login 1
 < REJECT 2:04 24:000000030000000200000021 rejected WRITE 24:00000002
 asked begin iqn.2000-01.test:a 400001370000 Discovery
 end Rejected 04 01 00000001
-
-a LOGICAL UNIT RESET
-login 1
-> LOGIN 7:37 "InitiatorName=iqn.2000-01.test:a\0SessionType=Discovery\0"
-> TASK_REQUEST 1:85
-> TEXT_REQUEST 7:10 "SendTargets=All\0"
-< LOGGED_IN 7:1F "MaxRecvDataSegmentLength=65536\0"
-< REJECT 2:04 24:00000002 rejected TASK_REQUEST 1:85
-asked begin iqn.2000-01.test:a 400001370000 Discovery
-end Rejected 04 02 00000001
-
-another Login Request
-login 1
-> LOGIN 7:37 "InitiatorName=iqn.2000-01.test:a\0SessionType=Discovery\0"
-> LOGIN 7:37 "InitiatorName=iqn.2000-01.test:a\0SessionType=Discovery\0"
-< LOGGED_IN 7:1F "MaxRecvDataSegmentLength=65536\0"
-< REJECT 2:04 24:00000002 rejected LOGIN 7:37
-asked begin iqn.2000-01.test:a 400001370000 Discovery
-end Rejected 04 03 00000001
 "#
+}
+
+/// The same of what comes first behind the login. Of each its header segment, its opcode, its data segment, and what comes behind.
+pub fn rejected_first() -> Form {
+    let form = r#"
+[0]
+login 1
+> LOGIN 7:37 "InitiatorName=iqn.2000-01.test:a\0SessionType=Discovery\0"
+> [1] [3]
+[4]
+< LOGGED_IN 7:1F "MaxRecvDataSegmentLength=65536\0"
+< REJECT 2:04 24:00000002 rejected [1]
+asked begin iqn.2000-01.test:a 400001370000 Discovery
+end Rejected 04 [2] 00000001
+"#;
+    let rows = r#"
+a SCSI Command; TEST_UNIT_READY; 01;; > TEXT_REQUEST 7:10 "SendTargets=All\0"
+a LOGICAL UNIT RESET; TASK_REQUEST 1:85; 02;; > TEXT_REQUEST 7:10 "SendTargets=All\0"
+another Login Request; LOGIN 7:37; 03; "InitiatorName=iqn.2000-01.test:a\0SessionType=Discovery\0"
+"#;
+    (form, rows)
 }

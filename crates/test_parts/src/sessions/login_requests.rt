@@ -1,5 +1,27 @@
 //! Logins of several requests that are accepted (RFC 7143, 6.2, 6.3 and 11.12).
-// Login responses have TSIH 0 until the last.
+use crate::sessions::run::Form;
+
+/// A second request, of which each row says what of it does not count: it is answered as if that were not there.
+pub fn second() -> Form {
+    let form = r#"
+[0]
+login 1
+> LOGIN 1:81 7:43 NAMES
+> LOGIN [1]
+< LOGGED_IN 1:81 7:17 14:0000 "TargetPortalGroupTag=1\0"
+< LOGGED_IN 7:1F 24:00000002 "MaxRecvDataSegmentLength=65536\0"
+asked begin iqn.2000-01.test:a 400001370000 Normal
+"#;
+    let rows = r#"
+other names in the second request: those of the first stand;
+  7:55 "InitiatorName=iqn.2000-01.test:b\0TargetName=iqn.2000-01.test:b\0SessionType=Discovery\0"
+a name twice in the second request: it is passed over; 7:27 "SessionType=Discovery\0SessionType=None\0"
+Version-min and TSIH of a later request are not looked at; 3:01 14:0007
+"#;
+    (form, rows)
+}
+
+/// Login responses have TSIH 0 until the last.
 pub fn rows() -> &'static str {
     r#"
 stage 0, then stage 1, with the names again
@@ -11,22 +33,6 @@ each-place
 < LOGGED_IN 1:81 7:27 14:0000 "TargetPortalGroupTag=1\0AuthMethod=None\0"
 < LOGGED_IN 7:6D 24:00000002 "MaxRecvDataSegmentLength=65536\0HeaderDigest=None\0InitialR2T=Yes\0"
   "MaxBurstLength=262144\0FirstBurstLength=65536\0"
-asked begin iqn.2000-01.test:a 400001370000 Normal
-
-other names in the second request: those of the first stand
-login 1
-> LOGIN 1:81 7:43 NAMES
-> LOGIN 7:55 "InitiatorName=iqn.2000-01.test:b\0TargetName=iqn.2000-01.test:b\0SessionType=Discovery\0"
-< LOGGED_IN 1:81 7:17 14:0000 "TargetPortalGroupTag=1\0"
-< LOGGED_IN 7:1F 24:00000002 "MaxRecvDataSegmentLength=65536\0"
-asked begin iqn.2000-01.test:a 400001370000 Normal
-
-a name twice in the second request: it is passed over
-login 1
-> LOGIN 1:81 7:43 NAMES
-> LOGIN 7:27 "SessionType=Discovery\0SessionType=None\0"
-< LOGGED_IN 1:81 7:17 14:0000 "TargetPortalGroupTag=1\0"
-< LOGGED_IN 7:1F 24:00000002 "MaxRecvDataSegmentLength=65536\0"
 asked begin iqn.2000-01.test:a 400001370000 Normal
 
 requests that stay in their stage; NSG is not looked at then, and 0 in the response
@@ -65,14 +71,6 @@ login 1
 > LOGIN 7:1C "Name=iqn.2000-01.test:array\0"
 < LOGGED_IN 1:04 14:0000
 < LOGGED_IN 7:36 24:00000002 WELCOME
-asked begin iqn.2000-01.test:a 400001370000 Normal
-
-Version-min and TSIH of a later request are not looked at
-login 1
-> LOGIN 1:81 7:43 NAMES
-> LOGIN 3:01 14:0007
-< LOGGED_IN 1:81 7:17 14:0000 "TargetPortalGroupTag=1\0"
-< LOGGED_IN 7:1F 24:00000002 "MaxRecvDataSegmentLength=65536\0"
 asked begin iqn.2000-01.test:a 400001370000 Normal
 
 the CmdSN of the first request alone counts

@@ -1,15 +1,32 @@
 //! Writes whose data comes by R2T (RFC 7143, 11.7 and 11.8): what did not come with the command is asked for in
 //! ranges of MaxBurstLength, one outstanding at a time, and the command is called once, with all of it.
+use crate::sessions::run::Form;
+
+/// A write of 512 bytes, of which none come with it. Of each the answer, its LUN, in the header segments and as a number, and what the
+/// session begins with or the target answers. The R2T has the LUN of its command.
+pub fn one_block() -> Form {
+    let form = r"
+[0]
+[4]
+> WRITE [2]
+> DATA_OUT [2] pattern 512
+< R2T [2]
+< [1]
+asked [3] Ok(Write { lba: 5, blocks: 1, fua: false })
+given pattern 512
+";
+    let rows = r"
+a write of 512 without its data; GOOD;; 0
+ImmediateData is No, and none comes; GOOD;; 0; ImmediateData No
+a write to LUN 3; GOOD; 9:03; 3
+the answer is sense; CHECK_CONDITION 0012700003000000000A000000000C0000000000;; 0; answer check 030C00
+";
+    (form, rows)
+}
+
+/// Writes of which some data come with the command, or whose ranges are several.
 pub fn rows() -> &'static str {
     r"
-a write of 512 without its data
-> WRITE
-> DATA_OUT pattern 512
-< R2T
-< GOOD
-asked 0 Ok(Write { lba: 5, blocks: 1, fua: false })
-given pattern 512
-
 # The R2T tells the StatSN of the next status, and does not use it up.
 512 bytes come with the command, 1024 in two Data-Out
 > WRITE 6:0200 20:00000600 40:03 pattern 512
@@ -61,33 +78,6 @@ FirstBurstLength 512
 < GOOD
 asked 0 Ok(Write { lba: 5, blocks: 2, fua: false })
 given pattern 1024
-
-ImmediateData is No, and none comes
-ImmediateData No
-> WRITE
-> DATA_OUT pattern 512
-< R2T
-< GOOD
-asked 0 Ok(Write { lba: 5, blocks: 1, fua: false })
-given pattern 512
-
-# The R2T has the LUN of its command.
-a write to LUN 3
-> WRITE 9:03
-> DATA_OUT 9:03 pattern 512
-< R2T 9:03
-< GOOD
-asked 3 Ok(Write { lba: 5, blocks: 1, fua: false })
-given pattern 512
-
-the answer is sense
-answer check 030C00
-> WRITE
-> DATA_OUT pattern 512
-< R2T
-< CHECK_CONDITION 0012700003000000000A000000000C0000000000
-asked 0 Ok(Write { lba: 5, blocks: 1, fua: false })
-given pattern 512
 "
 }
 

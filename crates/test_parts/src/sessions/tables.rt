@@ -37,6 +37,7 @@ fn what_initiators_ask_first(rt: HostRuntime) {
         &[
             Rows("discovery", discovery::served()),
             Rows("rejected in discovery", discovery::rejected()),
+            Alike("rejected first in discovery", discovery::rejected_first()),
             Rows("the first commands", first_commands::rows()),
             Rows("what libiscsi sends", libiscsi::rows()),
         ],
@@ -52,6 +53,10 @@ fn logins_of_one_request_and_of_several(rt: HostRuntime) {
             Rows("one request", logins::one_request()),
             Rows("the longest name", logins::longest_name()),
             Rows("several requests", login_requests::rows()),
+            Alike(
+                "what does not count of a second request",
+                login_requests::second(),
+            ),
             Rows("what open iscsi sends", open_iscsi::rows()),
         ],
     );
@@ -124,6 +129,7 @@ fn data_in_and_out(rt: HostRuntime) {
         &[
             Rows("data out and its task", data_outs::rows()),
             Rows("writes that collect", r2ts::rows()),
+            Alike("a write of a block by r2t", r2ts::one_block()),
             Rows("a write of a megabyte", long_write::megabyte()),
             Rows("residuals with r2t", r2ts::residuals()),
             Rows("reads", reads::rows()),
