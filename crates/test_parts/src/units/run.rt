@@ -19,19 +19,26 @@ the power on; send 0 00;; CHECK 06 29 00
 /// Plays each script of a table, behind these rows.
 pub fn run(rt: &impl Abort, alloc: Global, before: &str, table: &str) {
     for script in table.split("\n\n") {
-        let lines = lines_of(alloc, script).expect(rt, "memory");
-        must(rt, has_row(rt, &lines), script, &"a script has rows");
-        for n in 0..setup_of(rt, &lines, 0).times {
-            play(rt, alloc, before, script, &lines, n);
-        }
+        run_script(rt, alloc, before, script);
     }
 }
 
 /// Plays a script for each line that fills its form, behind these rows.
 pub fn run_form(rt: &impl Abort, alloc: Global, before: &str, (form, lines): (&str, &str)) {
-    for parts in lines.lines() {
+    let lines = lines_of(alloc, lines).expect(rt, "memory");
+    must(rt, !lines.is_empty(), form, &"a table has a row");
+    for parts in &lines {
         let script = filled(alloc, form, parts).expect(rt, parts);
-        run(rt, alloc, before, script.as_str());
+        run_script(rt, alloc, before, script.as_str());
+    }
+}
+
+// Plays a script for each of its numbers, behind these rows.
+fn run_script(rt: &impl Abort, alloc: Global, before: &str, script: &str) {
+    let lines = lines_of(alloc, script).expect(rt, "memory");
+    must(rt, has_row(rt, &lines), script, &"a script has rows");
+    for n in 0..setup_of(rt, &lines, 0).times {
+        play(rt, alloc, before, script, &lines, n);
     }
 }
 
