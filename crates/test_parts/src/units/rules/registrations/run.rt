@@ -18,7 +18,7 @@
 //!   `Conflict` or `Illegal` with its additional sense code and qualifier; who is told what, of all nexuses in their order;
 //!   the generation behind it; the keys, in the order of the nexuses; the holder's key and the type, both 0 without a
 //!   reservation, and the key 0 where all registrants hold.
-//! - `allows A r-o`: what this nexus may do: read, write, and what no reservation keeps out.
+//! - `allows A r-o` or `allows A rwo, B r-o`: what each of these nexuses may do: read, write, and what no reservation keeps out.
 //! - `reservation 24 BYTES`, `full-status 24 BYTES` or `capabilities 8 BYTES`: the data, where there is room for so many
 //!   bytes.
 //! - `copied`, `lasted`: it goes on with a copy of the registry, or with what is left behind a loss of power.
@@ -79,7 +79,7 @@ fn run_lines(rt: &impl Abort, alloc: Global, registry: &mut Registry, name: &str
 fn is_met(rt: &impl Abort, alloc: Global, registry: &mut Registry, line: &str) -> bool {
     let (first, rest) = line.split_once(' ').unwrap_or((line, ""));
     match first {
-        "allows" => allows(rt, alloc, registry, rest),
+        "allows" => allow(rt, alloc, registry, rest),
         "reservation" | "full-status" | "capabilities" => {
             shows(rt, alloc, registry, first, rest)
         }
@@ -162,6 +162,15 @@ fn number(data: &[u8], from: usize, to: usize) -> u64 {
         number = number.wrapping_mul(256).wrapping_add(u64::from(*byte));
     }
     number
+}
+
+// Compares the letters of the accesses that each of some nexuses has.
+fn allow(rt: &impl Abort, alloc: Global, registry: &Registry, words: &str) -> bool {
+    let mut are_met = true;
+    for words in words.split(", ") {
+        are_met = are_met && allows(rt, alloc, registry, words);
+    }
+    are_met
 }
 
 // Compares the letters of the accesses that a nexus has.

@@ -41,12 +41,10 @@ a host that is registered through both controllers writes through either, until 
 A Register 0 0 11 ALL_TG_PT; Good;; 1; 11 11; 0 0
 A Reserve 5 11 0 ALL_TG_PT; Good;; 1; 11 11; 11 5
 A_TWO Release 5 11 0 ALL_TG_PT; Good;; 1; 11 11; 11 5
-allows A rwo
-allows A_TWO rwo
+allows A rwo, A_TWO rwo
 B Register 0 0 22; Good;; 2; 11 11 22; 11 5
 B Preempt 5 22 11 ALL_TG_PT; Good; A:RegistrationsPreempted A_TWO:RegistrationsPreempted; 3; 22; 22 5
-allows A r-o
-allows A_TWO r-o
+allows A r-o, A_TWO r-o
 
 all registrants hold the reservation until both nexuses of the last one are unregistered
 A Register 0 0 11 ALL_TG_PT; Good;; 1; 11 11; 0 0
@@ -59,34 +57,22 @@ what each type allows: to the holder, to a registrant, to others
 A Register 0 0 11; Good;; 1; 11; 0 0
 B Register 0 0 22; Good;; 2; 11 22; 0 0
 A Reserve 1 11 0; Good;; 2; 11 22; 11 1
-allows A rwo
-allows B r-o
-allows C r-o
+allows A rwo, B r-o, C r-o
 A Release 1 11 0; Good;; 2; 11 22; 0 0
 A Reserve 3 11 0; Good;; 2; 11 22; 11 3
-allows A rwo
-allows B --o
-allows C --o
+allows A rwo, B --o, C --o
 A Release 3 11 0; Good;; 2; 11 22; 0 0
 A Reserve 5 11 0; Good;; 2; 11 22; 11 5
-allows A rwo
-allows B rwo
-allows C r-o
+allows A rwo, B rwo, C r-o
 A Release 5 11 0; Good; B:ReservationsReleased; 2; 11 22; 0 0
 A Reserve 6 11 0; Good;; 2; 11 22; 11 6
-allows A rwo
-allows B rwo
-allows C --o
+allows A rwo, B rwo, C --o
 A Release 6 11 0; Good; B:ReservationsReleased; 2; 11 22; 0 0
 A Reserve 7 11 0; Good;; 2; 11 22; 0 7
-allows A rwo
-allows B rwo
-allows C r-o
+allows A rwo, B rwo, C r-o
 A Release 7 11 0; Good; B:ReservationsReleased; 2; 11 22; 0 0
 A Reserve 8 11 0; Good;; 2; 11 22; 0 8
-allows A rwo
-allows B rwo
-allows C --o
+allows A rwo, B rwo, C --o
 
 no reservation
 allows C rwo
