@@ -59,55 +59,61 @@ block 6; send 0 28 00 00000006 00 0001;; GOOD 512*00
 "
 }
 
+/// A loss of power: the stop up to which a script comes, and the unit that it has then.
+#[derive(Clone, Copy)]
+struct Loss<'s, 'a> {
+    script: &'s Script<'a>,
+    stop: Stop,
+    setup: &'s Setup<'a>,
+}
+
+impl Loss<'_, '_> {
+    // The number of the value that a block of a device has behind it.
+    fn left(&self, rt: &impl Abort, alloc: Global, at: (Device, u32)) -> u64 {
+        self.script.left(rt, alloc, at, self.stop, self.setup.pick)
+    }
+}
+
 /// Loses the power there, with each crash.
 pub fn lose(rt: &impl Abort, alloc: Global, script: &Script, stop: Stop) {
     for pick in &PICKS {
-        lose_by(rt, alloc, script, stop, &script.setup(stop, *pick));
+        let setup = &script.setup(stop, *pick);
+        let loss = Loss {
+            script,
+            stop,
+            setup,
+        };
+        lose_by(rt, alloc, &loss);
     }
 }
 
 // Plays the unit of a script up to a stop, and looks at what a restart finds.
-fn lose_by(rt: &impl Abort, alloc: Global, script: &Script, stop: Stop, setup: &Setup) {
-    let mut bench = Bench::open(rt, alloc, setup);
-    play_up_to(rt, alloc, &mut bench, script, stop, setup);
-    let bench = bench.restart(rt, alloc, setup);
-    let root = (Device::Registrations, 0);
-    let record = script.left(rt, alloc, root, stop, setup.pick);
-    let mut bench = played(rt, alloc, bench, setup, found(), record);
-    look_at_blocks(rt, alloc, &mut bench, script, stop, setup);
+fn lose_by(rt: &impl Abort, alloc: Global, loss: &Loss<'_, '_>) {
+    let mut bench = Bench::open(rt, alloc, loss.setup);
+    play_up_to(rt, alloc, &mut bench, loss);
+    let bench = bench.restart(rt, alloc, loss.setup);
+    let record = loss.left(rt, alloc, (Device::Registrations, 0));
+    let mut bench = played(rt, alloc, bench, loss.setup, found(), record);
+    look_at_blocks(rt, alloc, &mut bench, loss);
 }
 
 // Plays a script up to a stop.
-fn play_up_to(
-    rt: &impl Abort,
-    alloc: Global,
-    bench: &mut Bench,
-    script: &Script,
-    stop: Stop,
-    setup: &Setup,
-) {
-    let (last, end) = script.last(stop);
-    for (place, text) in script.rows.iter().enumerate() {
+fn play_up_to(rt: &impl Abort, alloc: Global, bench: &mut Bench, loss: &Loss<'_, '_>) {
+    let (last, end) = loss.script.last(loss.stop);
+    for (place, text) in loss.script.rows.iter().enumerate() {
         if place <= last {
             let n = if place == last { end } else { 0 };
-            make(rt, alloc, bench, setup, &Row { text: *text, n });
+            make(rt, alloc, bench, loss.setup, &Row { text: *text, n });
         }
     }
 }
 
 // Each block has the value that was left.
-fn look_at_blocks(
-    rt: &impl Abort,
-    alloc: Global,
-    bench: &mut Bench,
-    script: &Script,
-    stop: Stop,
-    setup: &Setup,
-) {
+fn look_at_blocks(rt: &impl Abort, alloc: Global, bench: &mut Bench, loss: &Loss<'_, '_>) {
     let mut block = 0u32;
     for text in blocks().trim().lines() {
-        let n = script.left(rt, alloc, (Device::Blocks, block), stop, setup.pick);
-        make(rt, alloc, bench, setup, &Row { text, n });
+        let n = loss.left(rt, alloc, (Device::Blocks, block));
+        make(rt, alloc, bench, loss.setup, &Row { text, n });
         block = block.wrapping_add(1);
     }
 }
