@@ -9,6 +9,7 @@ use std::test::*;
 use test_connections::{Calls, WHOLE};
 
 /// A session, and how its answers leave.
+#[derive(Clone, Copy)]
 struct Batch {
     /// What comes, what the target answers, and how the session ends.
     row: &'static str,
@@ -23,18 +24,24 @@ struct Batch {
 
 // The outbox has room for 299008 bytes: four Data-In of 65536 and their headers, but no fifth. A READ (10) of 32 blocks is
 // answered by two Data-In of 8192 bytes and a response, so 16528 bytes; one of 63 blocks by 32496, which may wait. One of
-// 1024 blocks reads 524288 bytes.
-fn all_batches() -> &'static [Batch] {
-    &[
+// 1024 blocks reads 524288 bytes. Where nothing else is said all comes in one read, and no write fails.
+fn all_batches() -> [Batch; 10] {
+    let at_once = Batch {
+        row: "",
+        first: 1_000_000,
+        fail_at: 0,
+        writes: &[],
+        calls: 0,
+    };
+    [
         Batch {
             row: r"three commands in one read
 > TEST_UNIT_READY
 > TEST_UNIT_READY 24:00000002
 > TEST_UNIT_READY 24:00000003",
-            first: 1_000_000,
-            fail_at: 0,
             writes: &[144],
             calls: 3,
+            ..at_once
         },
         Batch {
             row: r"two commands and a half in the first read
@@ -42,9 +49,9 @@ fn all_batches() -> &'static [Batch] {
 > TEST_UNIT_READY 24:00000002
 > TEST_UNIT_READY 24:00000003",
             first: 120,
-            fail_at: 0,
             writes: &[96, 48],
             calls: 3,
+            ..at_once
         },
         Batch {
             row: r"the sink fails
@@ -52,10 +59,10 @@ fn all_batches() -> &'static [Batch] {
 > TEST_UNIT_READY 24:00000002
 > TEST_UNIT_READY 24:00000003
 end OutputFailed",
-            first: 1_000_000,
             fail_at: 1,
             writes: &[144],
             calls: 3,
+            ..at_once
         },
         Batch {
             row: r"the sink fails at the second batch
@@ -72,20 +79,18 @@ end OutputFailed",
             row: r"256 KiB in segments of 8192
 answer good pattern 262144
 > COMMAND 1:C1 20:00040000 32:280000000000000200",
-            first: 1_000_000,
-            fail_at: 0,
             writes: &[263728],
             calls: 1,
+            ..at_once
         },
         Batch {
             row: r"256 KiB behind the most that may wait
 answer in-turn pattern 32256 | pattern 262144
 > COMMAND 1:C1 20:00007E00 32:28000000000000003F
 > COMMAND 1:C1 20:0004000000000002 32:280000000000000200",
-            first: 1_000_000,
-            fail_at: 0,
             writes: &[296224],
             calls: 2,
+            ..at_once
         },
         Batch {
             row: r"32768 bytes wait behind the second of three reads
@@ -93,10 +98,9 @@ answer good pattern 16384
 > COMMAND 1:C1 20:00004000 32:280000000000000020
 > COMMAND 1:C1 20:0000400000000002 32:280000000000000020
 > COMMAND 1:C1 20:0000400000000003 32:280000000000000020",
-            first: 1_000_000,
-            fail_at: 0,
             writes: &[33056, 16528],
             calls: 3,
+            ..at_once
         },
         Batch {
             row: r"the sink fails behind the second of three reads: the third is not called
@@ -105,20 +109,19 @@ answer good pattern 16384
 > COMMAND 1:C1 20:0000400000000002 32:280000000000000020
 > COMMAND 1:C1 20:0000400000000003 32:280000000000000020
 end OutputFailed",
-            first: 1_000_000,
             fail_at: 1,
             writes: &[33056],
             calls: 2,
+            ..at_once
         },
         Batch {
             row: r"a reply that is longer than the outbox
 MaxRecvDataSegmentLength 65536
 answer good pattern 524288
 > COMMAND 1:C1 20:00080000 32:280000000000000400",
-            first: 1_000_000,
-            fail_at: 0,
             writes: &[262336, 262384],
             calls: 1,
+            ..at_once
         },
         Batch {
             row: r"the sink fails in the middle of a reply: no command behind it is called
@@ -127,10 +130,10 @@ answer good pattern 524288
 > COMMAND 1:C1 20:00080000 32:280000000000000400
 > TEST_UNIT_READY 24:00000002
 end OutputFailed",
-            first: 1_000_000,
             fail_at: 1,
             writes: &[262336],
             calls: 1,
+            ..at_once
         },
     ]
 }
@@ -166,7 +169,7 @@ fn expect_writes(rt: &impl Abort, ran: &Ran, batch: &Batch, name: &str) {
 #[test]
 fn batches(rt: HostRuntime) {
     let alloc = rt.alloc();
-    for batch in all_batches() {
+    for batch in &all_batches() {
         check(&rt, alloc, batch);
     }
 }
