@@ -58,7 +58,8 @@ use test_connections::{
     pdu_of,
 };
 
-/// The texts that rows name: those of both sides of a login, what the target says by itself, and what it tells of itself.
+/// The texts that rows name: those of both sides of a login, what the target says by itself, what it tells of itself, and with which
+/// keys open-iscsi begins, which are answered by the same.
 pub fn named_texts() -> Texts<'static> {
     &[
         (
@@ -70,6 +71,11 @@ pub fn named_texts() -> Texts<'static> {
         ("THE_TARGET", THE_TARGET),
         ("LIBISCSI_OFFERS", LIBISCSI_OFFERS),
         ("LIBISCSI_AGREED", LIBISCSI_AGREED),
+        (
+            "OPEN_ISCSI_KEYS",
+            "HeaderDigest=None\\0DataDigest=None\\0DefaultTime2Wait=2\\0DefaultTime2Retain=0\\0IFMarker=No\\0\
+             OFMarker=No\\0ErrorRecoveryLevel=0\\0",
+        ),
         (
             "TOLD_OF_FOUR",
             "TargetName=iqn.2000-01.test:array\\0TargetAddress=127.0.0.1:3260,1\\0\
