@@ -122,6 +122,15 @@ fn command(
     })
 }
 
+// A session's command that came to Moved, which is handed in once more, or which its worker begins so.
+fn once_more(session: usize, begins: bool, is_late: bool) -> Event {
+    if begins {
+        Event::BeginAgain { session, is_late }
+    } else {
+        Event::SubmitAgain { session, is_late }
+    }
+}
+
 fn event_of(alloc: Global, act: Act) -> Result<Event, Fail> {
     match act {
         Act::Attach(place, isid, group) => {
@@ -142,24 +151,12 @@ fn event_of(alloc: Global, act: Act) -> Result<Event, Fail> {
             false,
             true,
         ),
-        Act::Again(session) => Ok(Event::SubmitAgain {
-            session,
-            is_late: false,
-        }),
-        Act::AgainLate(session) => Ok(Event::SubmitAgain {
-            session,
-            is_late: true,
-        }),
+        Act::Again(session) => Ok(once_more(session, false, false)),
+        Act::AgainLate(session) => Ok(once_more(session, false, true)),
         Act::Begin(session, group, asks) => command(alloc, (session, group, asks), true, false),
         Act::BeginLate(session, group, asks) => command(alloc, (session, group, asks), true, true),
-        Act::BeginAgain(session) => Ok(Event::BeginAgain {
-            session,
-            is_late: false,
-        }),
-        Act::BeginAgainLate(session) => Ok(Event::BeginAgain {
-            session,
-            is_late: true,
-        }),
+        Act::BeginAgain(session) => Ok(once_more(session, true, false)),
+        Act::BeginAgainLate(session) => Ok(once_more(session, true, true)),
         Act::TakeBack(session) => Ok(Event::TakeBack { session }),
         Act::Close(group) => Ok(Event::Close { group }),
         Act::Take(group) => Ok(Event::Take { group }),
