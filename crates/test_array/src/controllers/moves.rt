@@ -7,6 +7,7 @@ use crate::controllers::script::Deed::{Attach, Move, Read, Send, TakeDown};
 use crate::controllers::script::List::{Short, To, ToNone};
 use crate::controllers::script::Told::{Check, Done, Ends, Good, Row, Stays, StopsAt};
 use crate::controllers::script::{BLANK, GOOD, Line, POWER_ON, STATES_CHANGED};
+use crate::portals::at::At;
 use access_states::AsetFault;
 use scsi_types::Group::{One, Two};
 use std::test::*;
@@ -32,11 +33,6 @@ fn set_by_a_session() -> &'static [Line] {
     ]
 }
 
-#[test]
-fn a_session_sets_the_owner(rt: HostRuntime) -> Result<(), Fail> {
-    perform(&rt, rt.alloc(), &[9, 9], set_by_a_session())
-}
-
 // The same where the blocks cannot be opened for the new owner: nothing has changed.
 fn set_without_an_open() -> &'static [Line] {
     &[
@@ -53,11 +49,6 @@ fn set_without_an_open() -> &'static [Line] {
     ]
 }
 
-#[test]
-fn an_owner_that_is_not_opened(rt: HostRuntime) -> Result<(), Fail> {
-    perform(&rt, rt.alloc(), &[0, 9], set_without_an_open())
-}
-
 // The array moves a unit by itself, and every session is told.
 fn moved_by_the_array() -> &'static [Line] {
     &[
@@ -70,11 +61,6 @@ fn moved_by_the_array() -> &'static [Line] {
         Line(Send(0, Two, Test), STATES_CHANGED),
         Line(Send(0, Two, ReadIt), BLANK),
     ]
-}
-
-#[test]
-fn the_array_moves_a_unit(rt: HostRuntime) -> Result<(), Fail> {
-    perform(&rt, rt.alloc(), &[9, 9], moved_by_the_array())
 }
 
 // Each controller goes down in turn; a session on the one that is down is told so.
@@ -93,11 +79,6 @@ fn each_goes_down() -> &'static [Line] {
     ]
 }
 
-#[test]
-fn each_controller_goes_down(rt: HostRuntime) -> Result<(), Fail> {
-    perform(&rt, rt.alloc(), &[9, 9], each_goes_down())
-}
-
 // Unit 1 cannot be opened for another owner: group 2 owns it, so that controller 1 goes down. Controller 2 does not: unit 0 is
 // moved and stays so, and unit 1 is told.
 fn stopped_at_the_second() -> &'static [Line] {
@@ -109,11 +90,6 @@ fn stopped_at_the_second() -> &'static [Line] {
     ]
 }
 
-#[test]
-fn what_moved_stays_moved(rt: HostRuntime) -> Result<(), Fail> {
-    perform(&rt, rt.alloc(), &[9, 0], stopped_at_the_second())
-}
-
 // Unit 0 cannot: it is told, and unit 1 is not asked.
 fn stopped_at_the_first() -> &'static [Line] {
     &[
@@ -123,7 +99,30 @@ fn stopped_at_the_first() -> &'static [Line] {
     ]
 }
 
+// Each script, what it shows, and how often each unit is opened before an open fails.
+fn scripts() -> [(&'static str, [u64; 2], &'static [Line]); 6] {
+    [
+        ("a session sets the owner", [9, 9], set_by_a_session()),
+        ("an owner that is not opened", [0, 9], set_without_an_open()),
+        ("the array moves a unit", [9, 9], moved_by_the_array()),
+        ("each controller goes down", [9, 9], each_goes_down()),
+        ("what moved stays moved", [9, 0], stopped_at_the_second()),
+        (
+            "the first that does not move ends it",
+            [0, 9],
+            stopped_at_the_first(),
+        ),
+    ]
+}
+
 #[test]
-fn the_first_that_does_not_move_ends_it(rt: HostRuntime) -> Result<(), Fail> {
-    perform(&rt, rt.alloc(), &[0, 9], stopped_at_the_first())
+fn units_that_move(rt: HostRuntime) {
+    for (name, opens, script) in &scripts() {
+        let at = At {
+            rt: &rt,
+            script: "units that move",
+            line: *name,
+        };
+        at.must(perform(&rt, rt.alloc(), opens, *script));
+    }
 }
