@@ -4,19 +4,20 @@
 
 use crate::ends::must;
 use crate::portals::beside::{BEFORE, SINCE, given, writes};
+use crate::portals::restart::zeros;
 use block_file::{Blocks, KeepOpener};
 use deadline::{Deadlined, DeadlinedPreparer, Watch};
 use disk_files::{FileBlocks, FilePreparer};
 use disk_preparer::{BlockMemory, Preparer};
 use event_log::{Log, Part};
 use std::alloc::Global;
+use std::fs;
 use std::fs::{File, Files};
 use std::process::Abort;
 use std::sync::{Arc, Wait};
 use std::test::*;
 use std::thread::Threads;
 use std::time::{Clock, Duration};
-use std::{fs, process};
 
 /// So many seconds a call may take, so many READs come together, and so often they do until a thread has read ahead in time.
 const PATIENCE: u64 = 60;
@@ -105,13 +106,7 @@ fn try_both<
 
 #[test]
 fn what_is_read_ahead_is_taken_unless_a_write_has_come_back_since(rt: HostRuntime) {
-    let process = process::id(rt.process());
-    let path = format!(in rt.alloc(); "arrayd_{process}_ahead").expect(&rt, "memory");
-    let name = path.as_str();
-    File::create(&rt, name)
-        .expect(&rt, name)
-        .set_len(2048)
-        .expect(&rt, name);
-    try_both(&rt, rt.alloc(), name);
-    fs::remove_file(&rt, name).expect(&rt, name);
+    let path = zeros(&rt, rt.alloc(), rt.process(), "ahead", 2048);
+    try_both(&rt, rt.alloc(), path.as_str());
+    fs::remove_file(&rt, path.as_str()).expect(&rt, "the file");
 }

@@ -4,18 +4,19 @@ ghost use Rattle.portal.specs.Disks.{no_file};
 
 use crate::ends::must;
 use crate::portals::prepared::Nameless;
+use crate::portals::restart::zeros;
 use block_file::{Blocks, ReplyMemory};
 use disk_files::{FileBlocks, FilePreparer};
 use disk_preparer::{BlockMemory, Preparer};
 use portal::{Gate, Prepared};
 use scsi_types::Command;
 use std::alloc::Global;
+use std::fs;
 use std::fs::{File, Files};
 use std::process::Abort;
 use std::sync::Wait;
 use std::test::*;
 use std::time::Clock;
-use std::{fs, process};
 
 /// A preparer that reads as another one does, and does nothing else.
 #[derive(Drop)]
@@ -184,13 +185,7 @@ fn pass_all<R: Clock + Wait + Files<File = File> + Abort + Copy + Drop>(
 
 #[test]
 fn a_read_beside_its_unit_is_taken_unless_a_write_has_ended_since(rt: HostRuntime) {
-    let process = process::id(rt.process());
-    let path = format!(in rt.alloc(); "arrayd_{process}_beside").expect(&rt, "memory");
-    let name = path.as_str();
-    File::create(&rt, name)
-        .expect(&rt, name)
-        .set_len(2048)
-        .expect(&rt, name);
-    pass_all(&rt, rt.alloc(), name);
-    fs::remove_file(&rt, name).expect(&rt, name);
+    let path = zeros(&rt, rt.alloc(), rt.process(), "beside", 2048);
+    pass_all(&rt, rt.alloc(), path.as_str());
+    fs::remove_file(&rt, path.as_str()).expect(&rt, "the file");
 }

@@ -7,21 +7,32 @@ use std::process::{Abort, Process};
 use std::rt::Files;
 use std::{fs, process};
 
-/// Makes its file, of 16 blocks of zeros.
+/// Makes a file of this process for the test of this name, of so many bytes, which are zeros: its path.
+pub fn zeros<R: Abort + Files<File = File>>(
+    rt: &R,
+    alloc: Global,
+    process: Process,
+    test: &str,
+    bytes: u64,
+) -> String {
+    let id = process::id(process);
+    let path = format!(in alloc; "arrayd_{id}_{test}").expect(rt, "memory");
+    let name = path.as_str();
+    File::create(rt, name)
+        .expect(rt, name)
+        .set_len(bytes)
+        .expect(rt, name);
+    path
+}
+
+/// Makes the file of a story, of 16 blocks.
 pub fn made<R: Abort + Files<File = File>>(
     rt: &R,
     alloc: Global,
     process: Process,
     story: &Story<'_>,
 ) -> String {
-    let id = process::id(process);
-    let path = format!(in alloc; "arrayd_{id}_{}", story.name).expect(rt, "memory");
-    let name = path.as_str();
-    File::create(rt, name)
-        .expect(rt, name)
-        .set_len(8192)
-        .expect(rt, name);
-    path
+    zeros(rt, alloc, process, story.name, 8192)
 }
 
 /// Takes the files away.
