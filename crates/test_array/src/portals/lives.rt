@@ -110,9 +110,7 @@ A < R2T
 B comes 1 HOST_A / 15:02 WELCOME
 A over
 B power
-B > COMMAND 1:C1 20:00000200 32:28000000000500000100
-B < DATA_IN 5:000200 512*00
-B < GOOD 36:00000001
+B reads 20:00000200 32:28000000000500000100 / 5:000200 512*00
 
 another ISID, and another name
 # Beside the session of A, by the same portal: all three live.
@@ -126,9 +124,7 @@ N power
 I > LOGOUT
 I < LOGGED_OUT
 I over
-A > TEST_UNIT_READY
-A < GOOD
-N > TEST_UNIT_READY
-N < GOOD
+A does TEST_UNIT_READY
+N does TEST_UNIT_READY
 "#
 }

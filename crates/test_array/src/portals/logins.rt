@@ -5,8 +5,7 @@ pub fn scripts() -> &'static str {
 sessions that come again
 # The same name, ISID and controller take the place of the first session; another controller does not.
 A alone
-A > TEST_UNIT_READY
-A < GOOD
+A does TEST_UNIT_READY
 B comes 1 HOST_A / 15:02 WELCOME
 A over
 B power
@@ -14,11 +13,9 @@ C comes 2 HOST_A / 15:03 WELCOME_2
 D at 1
 D > LOGIN 7:37 FINDS
 D < LOGGED_IN 7:1F 15:04 "MaxRecvDataSegmentLength=65536\0"
-B > TEST_UNIT_READY
-B < GOOD
+B does TEST_UNIT_READY
 C power
-C > TEST_UNIT_READY
-C < GOOD
+C does TEST_UNIT_READY
 
 sessions that find no room
 # 64 sessions leave no room for another until they are over.
@@ -33,14 +30,12 @@ D < LOGGED_IN 7:1F 15:41 "MaxRecvDataSegmentLength=65536\0"
 all leave LOGOUT
 C comes 1 HOST_B / 15:42 WELCOME
 C power
-A > TEST_UNIT_READY
-A < GOOD
+A does TEST_UNIT_READY
 
 sessions of discovery take no room
 200 enter 1 LOGIN 7:37 FINDS
 A comes 2 HOST_A / 15:C9 WELCOME_2
 A power
-A > TEST_UNIT_READY
-A < GOOD
+A does TEST_UNIT_READY
 "#
 }

@@ -8,6 +8,9 @@
 //! - `A > PDU`: it sends this PDU, and `A < PDU`: this PDU comes. `test_connections` says how a PDU is spelled (`pdu_of`). Behind a
 //!   login requests are numbered as they go, and of answers the numbers of the session are not compared;
 //! - `A < PDU / PDU`: one of these comes;
+//! - `A does PDU`: it sends this PDU, and GOOD comes;
+//! - `A reads 20:00000200 32:280000000005000001 / 5:000200 pattern 512`: it sends a SCSI Command that reads and differs so, and
+//!   these data come in one Data-In, and then GOOD;
 //! - `A >> PDU`: it sends this PDU, and `A << PDU`: this PDU comes, each with the numbers that are spelled;
 //! - `A pieces 7`: from now on what it sends goes out in pieces of so many bytes, and not in those of the script;
 //! - `A cut 47 PDU`: of this PDU, with the numbers that are spelled, it sends so many bytes, and then no more;
@@ -194,9 +197,11 @@ impl<'a, R: Abort + Eprint, S: Scene> Stage<'a, R, S> {
         }
     }
 
-    // A line for two hosts, for those that enter, or for the row of a unit.
+    // A line for what a host does or reads at once, for two hosts, for those that enter, or for the row of a unit.
     fn obey_other(&mut self, who: &str, verb: &str, rest: &str) {
         match verb {
+            "does" => self.get_done(who, rest),
+            "reads" => self.read(who, rest),
             "race" => self.race(rest),
             "enter" => self.enter(who, rest),
             "shows" => self.compare_row(who, rest),
@@ -273,6 +278,22 @@ impl<'a, R: Abort + Eprint, S: Scene> Stage<'a, R, S> {
         self.send(name, login.as_str());
         let answer = format!(in self.alloc; "{response} {answer}").expect(self.at.rt, "memory");
         self.compare(name, answer.as_str());
+    }
+
+    // A host sends this, and GOOD comes.
+    fn get_done(&mut self, name: &str, line: &str) {
+        self.send(name, line);
+        self.compare(name, "GOOD");
+    }
+
+    // A host reads by a command: how the command goes on, and how its one Data-In does.
+    fn read(&mut self, name: &str, words: &str) {
+        let (command, data) = words.split_once(" / ").unwrap_or((words, ""));
+        let command = format!(in self.alloc; "COMMAND 1:C1 {command}").expect(self.at.rt, "memory");
+        self.send(name, command.as_str());
+        let data = format!(in self.alloc; "DATA_IN {data}").expect(self.at.rt, "memory");
+        self.compare(name, data.as_str());
+        self.compare(name, "GOOD 36:00000001");
     }
 
     // The unit of a LUN tells a host that power came on.

@@ -15,7 +15,6 @@ D over
 E comes 1 HOST_A / WELCOME
 E power
 F comes 2 HOST_B / 15:02 WELCOME_2
-E > TEST_UNIT_READY
-E < GOOD
+E does TEST_UNIT_READY
 "#
 }
