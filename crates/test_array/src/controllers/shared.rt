@@ -249,23 +249,6 @@ impl<W: Wait + Drop, B: Blocks, O: Opener<B>, N: Naming<Opened>> Array<Host<B, O
     }
 }
 
-// Shares these units.
-fn make_shared<N: Naming<Opened>, B: Blocks, O: Opener<B>, W: Wait + Clone + Drop>(
-    rt: &W,
-    alloc: Global,
-    new: Vec<NewUnit<B, MemBlocks, O>>,
-) -> Result<Shared<W, B, O, N>, Fail>
-    requires named { IsNamed N.book N.table N.opening B.contents new.items }
-    requires count { length new.items ≤ 8 }
-{
-    Ok(Shared {
-        rt: rt.clone()?,
-        alloc,
-        units: Units::new(rt, alloc, new)?,
-        desk: Desk::new(alloc, Group::One)?,
-    })
-}
-
 /// Shares these units, and tells a tale of them.
 pub fn tell<
     N: Naming<Opened> + Send + Sync,
@@ -276,6 +259,11 @@ pub fn tell<
     requires named { IsNamed N.book N.table N.opening B.contents new.items }
     requires count { length new.items ≤ 8 }
 {
-    let shared = make_shared::<N, B, O, W>(rt, alloc, new)?;
+    let shared: Shared<W, B, O, N> = Shared {
+        rt: rt.clone()?,
+        alloc,
+        units: Units::new(rt, alloc, new)?,
+        desk: Desk::new(alloc, Group::One)?,
+    };
     happens::<W, Host<B, O, N>, Shared<W, B, O, N>>(rt, alloc, &shared, tale)
 }
