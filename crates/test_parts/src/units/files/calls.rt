@@ -48,7 +48,7 @@ fn play<R: Files<File = File> + AllocGlobal + Abort + Copy + Drop>(
     }
 }
 
-// Whether a call ends as its row says. The path is that of what it is on.
+// Whether a call ends as its row says. The path is that of what it is on. A disk that is opened is kept.
 fn ends_so<R: Files<File = File> + AllocGlobal + Abort + Copy + Drop>(
     rt: &R,
     kept: &mut Option<Disk<R>>,
@@ -56,7 +56,13 @@ fn ends_so<R: Files<File = File> + AllocGlobal + Abort + Copy + Drop>(
     row: &Row,
 ) -> bool {
     if row.word == "open" {
-        opens(rt, kept, path, row)
+        match open_disk(*rt, rt.alloc(), path) {
+            Ok(disk) => {
+                *kept = Some(disk);
+                row.ends(true)
+            }
+            Err(fault) => is_told(rt, rt.alloc(), &fault, row),
+        }
     } else if row.is_on_a_disk() {
         match kept {
             Some(disk) => is_done(rt, rt.alloc(), &mut disk.blocks, &mut disk.opener, row),
@@ -67,22 +73,6 @@ fn ends_so<R: Files<File = File> + AllocGlobal + Abort + Copy + Drop>(
         true
     } else {
         looks_so(rt, path, row)
-    }
-}
-
-// Opens a disk, and keeps it.
-fn opens<R: Files<File = File> + AllocGlobal + Abort + Copy + Drop>(
-    rt: &R,
-    kept: &mut Option<Disk<R>>,
-    path: &str,
-    row: &Row,
-) -> bool {
-    match open_disk(*rt, rt.alloc(), path) {
-        Ok(disk) => {
-            *kept = Some(disk);
-            row.ends(true)
-        }
-        Err(fault) => is_told(rt, rt.alloc(), &fault, row),
     }
 }
 
