@@ -13,9 +13,9 @@ use window::{
     ArrayView, Collector, Controller, PathView, Registration, SessionView, Signs, UnitView,
 };
 
-/// What the array was asked to be, as it is shown.
+/// What does not change while the array is served, as it is shown.
 #[derive(Drop)]
-struct Asked {
+struct Fixed {
     version: &'static str,
     target: String,
     array: u64,
@@ -26,9 +26,9 @@ struct Asked {
 pub(crate) struct ArrayCollector<R: Wait + Clock + Drop, A: Administered + Drop> {
     rt: R,
     array: Arc<A, Global>,
-    asked: Asked,
-    // When it began to be served: after the beginning of 1970, and of the clock that never goes back.
-    since: Duration,
+    fixed: Fixed,
+    // When it began to be served: since the beginning of 1970, and by the clock that never goes back.
+    began_1970: Duration,
     began: Duration,
 }
 
@@ -37,24 +37,24 @@ impl<R: Wait + Clock + Drop, A: Administered + Drop> Drop for ArrayCollector<R, 
         let Self {
             rt: _,
             array: _,
-            asked: _,
-            since: _,
+            fixed: _,
+            began_1970: _,
             began: _,
         } = self;
     }
 }
 
-// What the words ask for, as it is shown.
-fn asked_by(
+// What the words on the command line ask for, as it is shown.
+fn fixed_by(
     alloc: Global,
     options: &Options<'_>,
     version: &'static str,
-) -> Result<Asked, AllocError> {
+) -> Result<Fixed, AllocError> {
     let mut disks = Vec::new(alloc);
     for path in &options.paths {
         disks.push(window::spelled(alloc, path.as_bytes())?)?;
     }
-    Ok(Asked {
+    Ok(Fixed {
         version,
         target: window::spelled(alloc, options.target.as_bytes())?,
         array: u64::from(options.array),
@@ -73,7 +73,7 @@ fn files_of(alloc: Global, disks: &[String], place: usize) -> Result<(String, St
     Ok((disk, file))
 }
 
-// A unit by each controller.
+// The ways to a unit: by each controller, in which state, and with what was counted there.
 fn paths_of(
     alloc: Global,
     place: usize,
@@ -88,7 +88,7 @@ fn paths_of(
     Ok(paths)
 }
 
-// A unit.
+// A unit as it is shown.
 fn unit_of(
     alloc: Global,
     place: usize,
@@ -146,7 +146,7 @@ fn controller_of(
     })
 }
 
-// Both.
+// Both controllers.
 fn controllers_of<A: Administered>(
     alloc: Global,
     array: &A,
@@ -160,7 +160,7 @@ fn controllers_of<A: Administered>(
     Ok(controllers)
 }
 
-// Sessions.
+// The sessions that live, as they are shown.
 fn sessions_of(alloc: Global, seen: &Seen) -> Result<Vec<SessionView>, AllocError> {
     let mut sessions = Vec::with_capacity(alloc, seen.sessions.len())?;
     for session in &seen.sessions {
@@ -169,7 +169,7 @@ fn sessions_of(alloc: Global, seen: &Seen) -> Result<Vec<SessionView>, AllocErro
     Ok(sessions)
 }
 
-// The units, as their boards show them.
+// The units: their rows, their registrations, which may be missing, and what is counted of them.
 fn units_of<R: Wait, A: Administered>(
     rt: &R,
     alloc: Global,
@@ -188,7 +188,7 @@ fn units_of<R: Wait, A: Administered>(
     Ok(found)
 }
 
-// A count of microseconds.
+// Microseconds of a time; the greatest number where there are more.
 fn micros(time: Duration) -> u64 {
     u64::try_from(time.as_micros()).unwrap_or(u64::MAX)
 }
@@ -202,18 +202,18 @@ impl<R: Wait + Clock + Drop, A: Administered + Drop> ArrayCollector<R, A> {
         version: &'static str,
         array: Arc<A, Global>,
     ) -> Result<ArrayCollector<R, A>, AllocError> {
-        let since = rt.since_1970().unwrap_or(Duration::ZERO);
+        let began_1970 = rt.since_1970().unwrap_or(Duration::ZERO);
         let began = rt.monotonic().unwrap_or(Duration::ZERO);
         Ok(ArrayCollector {
             rt,
             array,
-            asked: asked_by(alloc, options, version)?,
-            since,
+            fixed: fixed_by(alloc, options, version)?,
+            began_1970,
             began,
         })
     }
 
-    // What is counted now.
+    // What is counted now. A log beside a window always counts.
     fn seen(&self, alloc: Global, now: Duration) -> Result<Seen, AllocError> {
         match self.array.log().meters() {
             Some(meters) => meters.look(&self.rt, alloc, now),
@@ -227,14 +227,14 @@ impl<R: Wait + Clock + Drop, A: Administered + Drop> Collector for ArrayCollecto
         let now = self.rt.monotonic().unwrap_or(self.began);
         let seen = self.seen(alloc, now)?;
         let array: &A = &self.array;
-        let units = units_of(&self.rt, alloc, array, &self.asked.disks, &seen)?;
+        let units = units_of(&self.rt, alloc, array, &self.fixed.disks, &seen)?;
         let controllers = controllers_of(alloc, array, &seen)?;
         let problems = window::problems(alloc, &units, array.log().is_failing())?;
         Ok(ArrayView {
-            version: self.asked.version,
-            target: self.asked.target.clone()?,
-            array: self.asked.array,
-            since: self.since.as_secs(),
+            version: self.fixed.version,
+            target: self.fixed.target.clone()?,
+            array: self.fixed.array,
+            since: self.began_1970.as_secs(),
             uptime_micros: micros(now.saturating_sub(self.began)),
             controllers,
             units,

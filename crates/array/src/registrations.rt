@@ -1,4 +1,4 @@
-//! The registrations of a unit, as they are shown.
+//! The registrations of a unit, as the window and the control socket show them.
 
 use array_units::Units;
 use block_file::{Blocks, Opener};
@@ -10,7 +10,8 @@ use unit_sequence::Array as Naming;
 use window::Registration;
 
 // The type of the reservation, where this registrant holds it (SPC-4, 5.13.9): of types 7 and 8 every registrant does.
-fn type_held(registrant: &Registrant, reservation: &Option<Reservation>) -> u64 {
+// 0 where it holds none.
+fn held_type(registrant: &Registrant, reservation: &Option<Reservation>) -> u64 {
     let Some(held) = reservation else {
         return 0;
     };
@@ -25,14 +26,14 @@ fn type_held(registrant: &Registrant, reservation: &Option<Reservation>) -> u64 
     }
 }
 
-// One.
+// A registration as it is shown.
 fn registration_of(
     alloc: Global,
     registrant: &Registrant,
     reservation: &Option<Reservation>,
 ) -> Result<Registration, AllocError> {
     let (nexus, key) = (&registrant.nexus, registrant.key);
-    let (isid, kind) = (nexus.isid(), type_held(registrant, reservation));
+    let (isid, kind) = (nexus.isid(), held_type(registrant, reservation));
     Ok(Registration {
         initiator: window::spelled(alloc, nexus.name())?,
         isid: format!(in alloc; "0x{isid:x}")?,
@@ -43,7 +44,7 @@ fn registration_of(
     })
 }
 
-// All, in the order of READ FULL STATUS.
+// All registrations of a registry, in the order of READ FULL STATUS.
 fn all_of(alloc: Global, registry: &Registry) -> Result<Vec<Registration>, AllocError> {
     let mut found = Vec::new(alloc);
     for registrant in registry.registrants() {
@@ -52,7 +53,7 @@ fn all_of(alloc: Global, registry: &Registry) -> Result<Vec<Registration>, Alloc
     Ok(found)
 }
 
-/// Those of the unit at a place. None: a command has the unit for long, or there was no memory.
+/// Those of the unit at a place. None: there is no such unit, a command has the unit for long, or there was no memory.
 pub(crate) fn registrations<B: Blocks, F: Blocks, O: Opener<B>, N: Naming<Opened>>(
     alloc: Global,
     units: &Units<B, F, O, N>,

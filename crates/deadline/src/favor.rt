@@ -3,7 +3,7 @@ ghost use Rattle.std.specs.Prelude.{◌≡◌, true, IsTrue};
 ghost use Rattle.std.specs.Arc.{arc_value};
 ghost use Rattle.deadline.specs.Back.{had_come_back};
 
-use crate::ahead::{Ahead, Hint, Sort};
+use crate::ahead::{Ahead, Hint, HintKind};
 use crate::hatch::{Runner, left};
 use crate::watch::Watch;
 use block_file::BLOCK_LENGTH;
@@ -138,7 +138,7 @@ impl<R: Wait + Clock + Drop, P: Preparer> Served<R, P> {
             disk,
             watch,
             ahead,
-            hints: Ahead::room(alloc)?,
+            hints: Ahead::no_hints(alloc)?,
             begun: None,
             own: None,
             has_more: false,
@@ -147,7 +147,7 @@ impl<R: Wait + Clock + Drop, P: Preparer> Served<R, P> {
 
     // Whether this run is read ahead, and is not what is asked.
     fn is_next(&self, hint: Hint) -> bool {
-        hint.sort == Sort::Read && Some(hint.first) != self.own
+        hint.kind == HintKind::Read && Some(hint.first) != self.own
     }
 
     // Whether there is time for what nobody waits for.
@@ -176,9 +176,9 @@ impl<R: Wait + Clock + Drop, P: Preparer> Served<R, P> {
             if !self.has_time() {
                 return;
             }
-            match hint.sort {
-                Sort::Edges => self.preparer.advise_edges(hint.first, hint.blocks),
-                Sort::Fetch | Sort::Read => self.preparer.advise(hint.first, hint.blocks),
+            match hint.kind {
+                HintKind::Edges => self.preparer.advise_edges(hint.first, hint.blocks),
+                HintKind::Fetch | HintKind::Read => self.preparer.advise(hint.first, hint.blocks),
             }
         }
     }
@@ -196,7 +196,7 @@ impl<R: Wait + Clock + Drop, P: Preparer> Served<R, P> {
     // The disk has given what was asked for behind all that it was told.
     fn arrive(&self) {
         for hint in &self.hints {
-            if hint.sort == Sort::Edges {
+            if hint.kind == HintKind::Edges {
                 self.ahead.arrives(hint.first);
             }
         }
@@ -230,7 +230,7 @@ impl<R: Wait + Clock + Drop, P: Preparer> Served<R, P> {
             if !self.is_next(*hint) {
                 continue;
             }
-            let (suits, is_much) = (self.ahead.suits(length), length > room);
+            let (suits, is_much) = (self.ahead.may_read_now(length), length > room);
             room = room.saturating_sub(length);
             if suits && is_much {
                 self.ahead.keep(&self.rt, *hint);

@@ -3,7 +3,7 @@ ghost use Rattle.std.specs.Prelude.{◌≡◌, true, IfOk, IfSome, IsTrue, lengt
 ghost use Rattle.std.specs.Arc.{arc_value};
 ghost use Rattle.deadline.specs.Back.{had_come_back};
 
-use crate::ahead::{Ahead, Hint, Sort, has_edges};
+use crate::ahead::{Ahead, Hint, HintKind, has_edges};
 use crate::favor::{Favor, Served, Wanted, behind};
 use crate::hatch::{Asker, FOR_ERRANDS};
 use crate::watch::Watch;
@@ -225,19 +225,19 @@ impl<R: Wait + Clock + Drop, P: Preparer> Preparer for DeadlinedPreparer<R, P> {
     }
 
     fn advise(&self, first: u64, blocks: u16) {
-        let sort = if self.ahead.serves(blocks) {
-            Sort::Read
+        let kind = if self.ahead.pays(blocks) {
+            HintKind::Read
         } else if self.preparer.wants_hints() {
-            Sort::Fetch
+            HintKind::Fetch
         } else {
             return;
         };
-        self.ahead.keep(&self.rt, Hint::of(sort, first, blocks));
+        self.ahead.keep(&self.rt, Hint::of(kind, first, blocks));
     }
 
     fn advise_edges(&self, first: u64, blocks: u16) {
         if has_edges(first, blocks) && self.preparer.wants_hints() {
-            let hint = Hint::of(Sort::Edges, first, blocks);
+            let hint = Hint::of(HintKind::Edges, first, blocks);
             self.ahead.keep(&self.rt, hint);
         }
     }
@@ -253,14 +253,16 @@ impl<R: Wait + Clock + Drop, P: Preparer> Preparer for DeadlinedPreparer<R, P> {
     }
 
     fn fetch_edges(&self, first: u64, blocks: u16) {
-        if has_edges(first, blocks) && !self.ahead.has_arrived(first) {
+        if has_edges(first, blocks) && !self.ahead.take_arrived(first) {
             self.ask_fetcher(Wanted::FetchEdges(first, blocks));
         }
     }
 
     fn read(&self, first: u64, bytes: Vec<u8>, is_looked_at: bool) -> Option<BlockMemory> {
         let memory = self.ahead.exchange(self.look(first), bytes);
-        let is_left = !is_looked_at && memory.bytes.len() < MUCH && !self.ahead.has_some(&self.rt);
+        let is_left = !is_looked_at
+            && memory.bytes.len() < MUCH
+            && !self.ahead.has_others(&self.rt);
         if memory.beside.is_some() || is_left {
             return Some(memory);
         }

@@ -3,9 +3,8 @@ ghost use Rattle.std.specs.Prelude.{◌≡◌, IfOk};
 ghost use Rattle.disk_files.specs.Tally.{none};
 
 use crate::backing::BackingFile;
-use crate::file_log::number_of;
 use crate::node::node_of;
-use crate::system::SystemFile;
+use crate::system::{SystemFile, number_of};
 use crate::{DiskFault, FileBlocks, FileFault, FileOpener};
 use disk_preparer::Node;
 use std::alloc::Global;

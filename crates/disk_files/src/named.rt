@@ -9,8 +9,7 @@ ghost use Rattle.disk_files.specs.System.{has_read, has_written, lasts};
 ghost use Rattle.disk_files.specs.Tally.{failures_with, writes_failed_with};
 
 use crate::FileBlocks;
-use crate::file_log::number_of;
-use crate::system::SystemFile;
+use crate::system::{SystemFile, number_of};
 use block_file::{Blocks, DeviceFailed};
 use disk_preparer::{Node, OnDisk};
 use event_log::Call;

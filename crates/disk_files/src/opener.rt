@@ -5,8 +5,7 @@ ghost use Rattle.block_file.specs.Failures.{last_count};
 ghost use Rattle.disk_files.specs.Tally.{once_more_opened};
 
 use crate::FileBlocks;
-use crate::file_log::number_of;
-use crate::system::SystemFile;
+use crate::system::{SystemFile, number_of};
 use block_file::{DeviceFailed, Opener};
 use event_log::Call;
 use std::alloc::{AllocError, Global};

@@ -3,8 +3,7 @@ ghost use Rattle.std.specs.Prelude.{◌≡◌, IfOk, OnOk};
 ghost use Rattle.disk_files.specs.System.{name_lasts};
 
 use crate::backing::BackingFile;
-use crate::file_log::number_of;
-use crate::system::{give_name, make_name_last};
+use crate::system::{give_name, make_name_last, number_of};
 use crate::{
     DiskFault, DiskLock, FileBlocks, FileFault, FileLog, NamedBlocks, RegistrationsFault,
     SystemFile,

@@ -7,14 +7,21 @@ ghost use Rattle.disk_files.specs.System.{has_read, has_written, ended, lasts, i
 
 use crate::backing::{BackingFile, Counted};
 use crate::fault::FileFault;
-use crate::file_log::number_of;
 use crate::flushes::LastingFile;
 use crate::node::node_of;
 use disk_preparer::Node;
 use std::fs::{self, File, OpenFile};
-use std::io::{ErrorKind, Seek, SeekFrom};
+use std::io::{self, ErrorKind, Seek, SeekFrom};
 use std::os::unix::fs::FileExt;
 use std::rt::Files;
+
+/// The number of an error of the system, 0 where it told none, as where fewer bytes came than were asked for.
+pub(crate) fn number_of(e: &io::Error) -> u32 {
+    match e.raw_os_error() {
+        Some(number) => u32::try_from(number).unwrap_or(0),
+        None => 0,
+    }
+}
 
 /// A file of the system, through one handle that reads and writes.
 #[derive(Drop)]

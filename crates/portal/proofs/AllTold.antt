@@ -14,7 +14,7 @@ use Rattle.unit_entries.specs.Histories.{is_own, own}
 use Rattle.portal.specs.Units.{Claims, any_device}
 use Rattle.portal.specs.Late.{Late, never}
 use Rattle.portal.specs.Leavers.{Leaver, AreTwo, IsOneOf, StandsIn, number_of}
-use Rattle.portal.specs.Entries.{Done, replied, was_reset, AreAlike, AreEntries, HasDone, IsEntry, IsLast, IsLate, IsNextDone}
+use Rattle.portal.specs.Entries.{Done, replied, was_reset, AreAlike, AreEntries, HasDone, IsEntry, IsEnd, IsLate, IsNextDone}
 use Rattle.portal.proofs.Apart.{one_session}
 use Rattle.portal.proofs.AsTold.{alike_both, alike_itself, alike_leads, has_done_as_told, legal_back, legal_both, legal_front}
 use Rattle.portal.proofs.Chains.{itself, one_more}
@@ -218,7 +218,7 @@ module _ (s : UnitState) where
         let q = one_more session f k in omega (arith, one, rest, p, q)
 
     -- and its end
-    last : (x : UnitState) (rest again : List Entry) → AreAlike sessions x rest again → IsLast session rest → IsLast session again
+    last : (x : UnitState) (rest again : List Entry) → AreAlike sessions x rest again → IsEnd session rest → IsEnd session again
     last x rest again alike is =
         ⊎_elim (λ (none : counted own session rest ≡ 0). inl (as_many x rest again alike ∙ none))
         (λ (d : (others : List Entry) × (counted own session others ≡ 0) × (rest ≡ others ++ Detach session ∷ [])).
@@ -270,7 +270,7 @@ done_again s sessions nexus done number h k other alike legal is =
         is = p.is ∙ ap (λ (l : List Entry). l ++ p.second) (q.is ∙ ap (λ (l : List Entry). l ++ q.second) attached);
         entries = subst (λ (n : ℕ). AreEntries any_device never s n (r.first ++ end) done q.second) (sym as_long)
             (stay s id sessions not front (r.first ++ end) done d.behind q.second leads q.is_second d.entries);
-        ends = subst (λ (n : ℕ). IsLast n p.second) (sym as_long)
+        ends = subst (λ (n : ℕ). IsEnd n p.second) (sym as_long)
             (last s id sessions not (state_after s (front ++ d.behind)) d.rest p.second p.is_second d.ends);
         left = tt;
       };

@@ -32,7 +32,7 @@ use Rattle.portal.specs.Late.{Late, late_at}
 use Rattle.portal.specs.Sessions.{Sayings}
 use Rattle.portal.specs.Units.{Claims}
 use Rattle.portal.specs.Submitted.{At, IsServed, IsResetAnswer}
-use Rattle.portal.specs.Entries.{Done, done_by, reset_by, of_unit, done_in, done_at, AreEntries, HasDone, HasDoneNothing, IsLast, IsNormal}
+use Rattle.portal.specs.Entries.{Done, done_by, reset_by, of_unit, done_in, done_at, AreEntries, HasDone, HasDoneNothing, IsEnd, IsNormal}
 use Rattle.portal.specs.Entries.{AreAnswered}
 use Rattle.portal.specs.Target.{TargetValue, Sight, IsAbsent, IsAttachedTo, AreAttached, AreOver, HasBegun, IsOver, IsOverAt, IsRefused}
 use Rattle.portal.specs.Target.{IsServedAt, IsResetIn, LeadsOn, unbegun}
@@ -120,7 +120,7 @@ module _ (claims : Claims) (late : Late) (opening : ℕ → UnitState) where
         legal = e.legal;
         is = e.is ∙ ap (λ (h : List Entry). h ++ e.rest) is.seen;
         entries = is.entries;
-        ends = subst (λ (n : ℕ). IsLast n e.rest) is.session e.last;
+        ends = subst (λ (n : ℕ). IsEnd n e.rest) is.session e.last;
         left = subst (λ (n : ℕ). claims.left (opening unit) n one.1) is.session
             (subst (λ (n : ℕ). claims.left (opening n) a.pass.session one.1) is.place left.1.1);
       }

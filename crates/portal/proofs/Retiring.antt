@@ -9,7 +9,7 @@ use Rattle.unit_entries.specs.Histories.{IsHistory}
 use Rattle.unit_control.specs.Entry.{Entry, Detach}
 use Rattle.unit_control.specs.State.{UnitState}
 use Rattle.portal.specs.Units.{Claims, IsRetired}
-use Rattle.portal.specs.Entries.{IsLast}
+use Rattle.portal.specs.Entries.{IsEnd}
 use Rattle.portal.specs.Submitted.{At}
 use Rattle.portal.specs.Target.{Sight, AreOver, IsOverAt}
 use Rattle.portal.proofs.Chains.{none_own}
@@ -20,7 +20,7 @@ module _ (claims : Claims) (s : UnitState) where
     pub rest : List Entry
     pub is : history ≡ old.seen ++ rest
     pub legal : IsHistory claims.contents s history
-    pub last : IsLast old.session rest
+    pub last : IsEnd old.session rest
 
   by_end : (old : Known Entry) (history : List Entry) → HasRetired claims.contents s old history → Ended old history
   by_end old history is =

@@ -1,4 +1,5 @@
--- Which of what a session asked are entries of a unit's history, and that these are all of its own there, in order.
+-- Which of what a session asked are entries of a unit's history, and that these are all of its own there, in order. Then two words of the
+-- laws that take several sessions together (`IsAttachOf`, `AreAlike`).
 use Rattle.std.specs.Prelude.{◌≡◌, ◌⊎◌, ℕ, ◌<◌, ◌≤◌, false, true, IsTrue, nat_eq, if◌then◌else◌, List, [], ◌∷◌, ◌++◌, length, MatchBool}
 use Rattle.std.specs.Prelude.{Some, None, Result, slice_get, take}
 use Rattle.std.specs.List.{flat_map}
@@ -42,7 +43,7 @@ reset_by resets.Done = was_reset ∷ []
 reset_by resets.Gone = []
 reset_by resets.Failed = []
 
--- what of it was asked of this unit
+-- what was done, where the unit that was named is this one; else nothing
 abbrev pub of_unit : ℕ → ℕ → List Done → List Done
 of_unit unit named done = if nat_eq named unit then done else []
 
@@ -58,10 +59,10 @@ done_in unit over = []
 abbrev pub done_at : ℕ → List Asking → List Done
 done_at unit asks = flat_map (done_in unit) asks
 
--- Behind the last that it has done a session has no entry of its own, as where it was gone before since another of its nexus has
--- attached; or one, its Detach, the last of all.
-abbrev pub IsLast : ℕ → List Entry → Type 0
-IsLast session rest =
+-- How a history ends behind all that a session has done there: it has no entry of the session's own, as where another of its nexus has
+-- attached and it was gone already; or just its Detach, as the last entry of all.
+abbrev pub IsEnd : ℕ → List Entry → Type 0
+IsEnd session rest =
     (counted own session rest ≡ 0)
     ⊎ ((others : List Entry) × (counted own session others ≡ 0) × (rest ≡ others ++ Detach session ∷ []))
 
@@ -70,31 +71,33 @@ IsLast session rest =
 module _ (claims : Claims) (late : Late) (s : UnitState) where
   -- The entry behind this history stands for a command whose flush was left to the gate, and came behind it. GOOD was told only behind
   -- a flush that began when the session's pass had seen the entry.
-  pub record IsLate (before : List Entry) (session serial : ℕ) (by : Group) (served : Result ScsiCommand CdbFault) (bytes : List ℕ)
+  pub record IsLate (before : List Entry) (session serial : ℕ) (by : Group) (entered : Result ScsiCommand CdbFault) (bytes : List ℕ)
       (choice : Choice) (asked : Result ScsiCommand CdbFault) (reply : ReplyValue) : Type 0 where
     pub is_late : IsTrue late.is_late
     pub stands : HasLateFlush claims.contents ((pass : PlacedPass Entry)
-        × (pass.pass.seen ≡ before ++ Command session serial by served bytes choice ∷ []) × late.lasts pass)
-        s before session serial by served bytes choice asked reply
+        × (pass.pass.seen ≡ before ++ Command session serial by entered bytes choice ∷ []) × late.lasts pass)
+        s before session serial by entered bytes choice asked reply
 
-  -- The entry behind this history is this command, and the reply is what the model gives there, or stands for it so; or it is the
-  -- reset.
+  -- The entry behind this history is this command, and the reply is what the model gives there; or it is the command without its flush
+  -- (`IsLate`); or it is the reset.
   abbrev pub IsEntry : List Entry → Entry → Done → Type 0
   IsEntry before (Attach nexus) done = ⊥
   IsEntry before (Detach session) done = ⊥
   IsEntry before (Reset session) (replied asked bytes reply) = ⊥
   IsEntry before (Reset session) was_reset = Unit {0}
   IsEntry before (Move list choice) done = ⊥
-  IsEntry before (Command session serial by asked bytes choice) (replied told came reply) =
-      (came ≡ bytes) × (((told ≡ asked) × IsToldBehind claims.contents s before (Command session serial by asked bytes choice) reply)
-      ⊎ IsLate before session serial by asked bytes choice told reply)
-  IsEntry before (Command session serial by asked bytes choice) was_reset = ⊥
+  IsEntry before (Command session serial by entered bytes choice) (replied asked came reply) =
+      (came ≡ bytes)
+      × (((asked ≡ entered) × IsToldBehind claims.contents s before (Command session serial by entered bytes choice) reply)
+      ⊎ IsLate before session serial by entered bytes choice asked reply)
+  IsEntry before (Command session serial by entered bytes choice) was_reset = ⊥
 
   abbrev pub IsNextDone : List Entry → Entry → List Done → (List Done → Type 0) → Type 0
   IsNextDone before e [] rest = ⊥
   IsNextDone before e (done ∷ more) rest = IsEntry before e done × rest more
 
-  -- A session's own entries behind a beginning of a history are what it has done there, in order, and nothing else.
+  -- A session's own entries behind a beginning of a history are what it has done there, in order, and nothing else: its own entry is the
+  -- next that was done, and so on with the others; another's is passed over.
   abbrev pub AreEntries : ℕ → List Entry → List Done → List Entry → Type 0
   AreEntries session before done [] = done ≡ []
   AreEntries session before done (e ∷ behind) =
@@ -103,7 +106,7 @@ module _ (claims : Claims) (late : Late) (s : UnitState) where
       (AreEntries session (before ++ e ∷ []) done behind)
 
   -- In this legal history a session of this nexus has attached. Its own entries since are what it has done at the unit, in order,
-  -- and its end. Its number is the place of its Attach, and it is this session that has left the unit.
+  -- and its end. Its number is the place of its Attach; `claims.left` alone can say that it is this session which retired there.
   pub record HasDone (nexus : Nexus) (done : List Done) (history : List Entry) : Type 0 where
     pub before : List Entry
     pub behind : List Entry
@@ -111,7 +114,7 @@ module _ (claims : Claims) (late : Late) (s : UnitState) where
     pub legal : IsHistory claims.contents s history
     pub is : history ≡ ((before ++ Attach nexus ∷ []) ++ behind) ++ rest
     pub entries : AreEntries (length before) (before ++ Attach nexus ∷ []) done behind
-    pub ends : IsLast (length before) rest
+    pub ends : IsEnd (length before) rest
     pub left : claims.left s (length before) history
 
 -- In this history a session of this nexus has attached at the place that is its number, and before that no entry is its own.
