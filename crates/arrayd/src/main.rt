@@ -1,4 +1,4 @@
-//! A disk array over iSCSI.
+//! The start of `arrayd`, a disk array over iSCSI: its words, its environment, its log, then the array; and the exit status of each fault.
 #![tactic(auto)]
 
 ghost use Rattle.std.specs.Prelude.{◌≡◌};
@@ -45,7 +45,7 @@ fn asked_log<R: Env + AllocGlobal + Files<File = File> + Clone + Drop>(
     }
 }
 
-// The log, which counts where the array is to be administered by anything; and its file.
+// The log, which also counts for the window and the control socket, where one of them is asked for; and its file.
 fn counting_log<R: Env + AllocGlobal + Files<File = File> + Clone + Drop>(
     rt: &R,
     alloc: Global,
@@ -56,7 +56,7 @@ fn counting_log<R: Env + AllocGlobal + Files<File = File> + Clone + Drop>(
     Ok((asked.counted(alloc, log, units)?, file))
 }
 
-// Says why the program ends, and with which status.
+// Says on standard error why the program ends; its exit status.
 fn complain(rt: &impl Eprint, fault: Fault) -> ExitCode
     ensures { exit_status result ≡ status_of fault }
 {
@@ -64,7 +64,7 @@ fn complain(rt: &impl Eprint, fault: Fault) -> ExitCode
     fault.status()
 }
 
-// The same, behind a line in the log where what was asked for is none that there is.
+// The same, before the log is open. Which word or variable is wrong is written to the log's file first.
 fn refuse<R: Clock + Env + AllocGlobal + Files<File = File> + Eprint + Clone + Drop>(
     rt: &R,
     alloc: Global,
@@ -79,12 +79,12 @@ fn refuse<R: Clock + Env + AllocGlobal + Files<File = File> + Eprint + Clone + D
     complain(rt, fault)
 }
 
-// What of the command line asks for nothing.
+// The part of the command line that is wrong; empty where there is no memory for it.
 fn wrong_part(alloc: Global, words: &[String]) -> String {
     command_line::wrong_part(alloc, words).unwrap_or(String::new(alloc))
 }
 
-// The same, where the log has begun.
+// The same as `complain`, once the log is open: it is told of want of memory, and closed.
 fn give_up(rt: &(impl Eprint + Clock), log: &Log, fault: Fault) -> ExitCode
     ensures { exit_status result ≡ status_of fault }
 {
@@ -120,13 +120,14 @@ fn main(rt: HostRuntime) -> ExitCode {
         Ok(settings) => settings,
         Err(refused) => return refuse(&rt, alloc, refused.0, refused.1),
     };
+    // of the environment, not of the words
     options.second_host = settings.second_host;
     let asked = &settings.asked;
     let (log, file) = match counting_log(&rt, alloc, asked, options.paths.len()) {
         Ok(found) => found,
         Err(fault) => return complain(&rt, fault),
     };
-    // What threads may do is known here alone.
+    // The types that the log's thread takes along are known here alone.
     if let Some(file) = file {
         if file.open().is_none() {
             let _ = eprintln!(&rt; "arrayd: cannot write the log");
@@ -140,6 +141,7 @@ fn main(rt: HostRuntime) -> ExitCode {
         Ok(administration) => administration,
         Err(fault) => return give_up(&rt, &log, fault),
     };
+    // What serves closes the log, whatever comes.
     if let Some(patience) = settings.patience {
         let parts = match open_files(&rt, alloc, &log, &options) {
             Ok(parts) => parts,

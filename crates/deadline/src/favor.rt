@@ -13,22 +13,26 @@ use std::marker::{Model, PhantomData};
 use std::sync::{Arc, Wait};
 use std::time::{Clock, Duration};
 
-/// What is done for others behind or before an answer has this part of the time that a call may take.
-const PART: u32 = 16;
+/// What nobody asked, before or behind an answer, may take this part of the time that a call may take.
+const PART_FOR_OTHERS: u32 = 16;
 
-/// So many bytes are read ahead behind one answer.
-const AT_ONCE: usize = 524_288;
+/// At most so many bytes are read ahead behind one answer.
+const MOST_AHEAD: usize = 524_288;
 
 /// What a preparer is asked.
 #[derive(Clone, Copy, PartialEq, Eq)]
 pub(crate) enum Wanted {
+    /// That so many blocks from this one on be in the system's memory.
     Fetch(u64, u16),
+    /// That the pages be there of which a write of so many blocks from this one on changes a part.
     FetchEdges(u64, u16),
+    /// A read from this block on, of as many as the memory has bytes for, and whether somebody has looked that they take time.
     Read(u64, bool),
+    /// A flush.
     Flush,
 }
 
-/// The same, and whether a flush was done.
+/// What a thread of a preparer is asked and gives back: what is wanted, the memory of a read, and whether a flush was done.
 #[derive(Drop)]
 pub(crate) struct Favor<P: Preparer> {
     wanted: Wanted,
@@ -81,7 +85,9 @@ impl<P: Preparer> Favor<P> {
     }
 }
 
-// What was read beside the device, behind a look at how many of its writes had come back; what was not stays memory.
+// Memory that was read beside the device, behind such a look at how many of its writes had come back. The stamp of the file's own
+// preparer goes by the writes that ended in the file; a device with a deadline counts those that came back. So that stamp is replaced
+// by the look. What was not read stays mere memory.
 #[tactic(auto, using(disk_preparer::specs::Beside::a_read_beside_says))]
 pub(crate) fn behind(memory: BlockMemory, beside: Beside) -> BlockMemory
     requires { had_come_back beside.disk beside.writes }
@@ -103,11 +109,15 @@ pub(crate) struct Served<R: Wait + Clock + Drop, P: Preparer> {
     disk: Node,
     watch: Arc<Watch, Global>,
     ahead: Arc<Ahead, Global>,
-    // What it was told with what it was asked last; and when that was, and from which block on it reads.
+    // The hints that came along with what was asked last.
     hints: Vec<Hint>,
+    // When that was asked; none where the clock failed.
     begun: Option<Duration>,
+    // The first block, where it was a read.
     own: Option<u64>,
-    // Whether it reads ahead behind its answer.
+    // Whether the disk was told of all the hints.
+    has_told: bool,
+    // Whether there is something to read ahead behind the answer.
     has_more: bool,
     ghost of_disk: { P.disk (arc_value preparer) ≡ disk },
 }
@@ -121,7 +131,7 @@ fn first_of(wanted: Wanted) -> Option<u64> {
 }
 
 impl<R: Wait + Clock + Drop, P: Preparer> Served<R, P> {
-    /// The preparer of this disk; what is asked of it is told here before.
+    /// The preparer of this disk; `ahead` has the hints of calls that are to come.
     pub(crate) fn new(
         rt: R,
         alloc: Global,
@@ -141,11 +151,12 @@ impl<R: Wait + Clock + Drop, P: Preparer> Served<R, P> {
             hints: Ahead::no_hints(alloc)?,
             begun: None,
             own: None,
+            has_told: false,
             has_more: false,
         })
     }
 
-    // Whether this run is read ahead, and is not what is asked.
+    // Whether this hint is a read other than the one that is asked.
     fn is_next(&self, hint: Hint) -> bool {
         hint.kind == HintKind::Read && Some(hint.first) != self.own
     }
@@ -153,12 +164,12 @@ impl<R: Wait + Clock + Drop, P: Preparer> Served<R, P> {
     // Whether there is time for what nobody waits for.
     fn has_time(&self) -> bool {
         match self.begun {
-            Some(begun) => left(&self.rt, begun, self.watch.patience() / PART).is_some(),
+            Some(begun) => left(&self.rt, begun, self.watch.patience() / PART_FOR_OTHERS).is_some(),
             None => false,
         }
     }
 
-    // Says which runs are read ahead: whether there are any.
+    // Notes the reads among the hints as coming: whether there are any.
     fn announce(&self) -> bool {
         let mut is_any = false;
         for hint in &self.hints {
@@ -170,33 +181,39 @@ impl<R: Wait + Clock + Drop, P: Preparer> Served<R, P> {
         is_any
     }
 
-    // Tells the disk what it is told.
-    fn tell(&self) {
+    // Passes the hints on to the disk while there is time: whether all were.
+    fn tell(&self) -> bool {
         for hint in &self.hints {
             if !self.has_time() {
-                return;
+                return false;
             }
             match hint.kind {
                 HintKind::Edges => self.preparer.advise_edges(hint.first, hint.blocks),
                 HintKind::Fetch | HintKind::Read => self.preparer.advise(hint.first, hint.blocks),
             }
         }
+        true
     }
 
-    // Takes what is told, before this is done.
+    // Takes the hints and passes them on, before what is wanted is done. A flush takes none, and reads nothing ahead.
     fn listen(&mut self, wanted: Wanted) {
+        self.hints.clear();
+        self.has_more = false;
+        if wanted == Wanted::Flush {
+            return;
+        }
         self.ahead.begin_work();
         self.begun = self.rt.monotonic().ok();
         self.own = first_of(wanted);
         self.ahead.take_hints(&self.rt, &mut self.hints);
         self.has_more = self.announce();
-        self.tell();
+        self.has_told = self.tell();
     }
 
-    // The disk has given what was asked for behind all that it was told.
+    // The disk has given what was asked for behind all that it was told, and so the pages of the hints, too.
     fn arrive(&self) {
         for hint in &self.hints {
-            if hint.kind == HintKind::Edges {
+            if hint.kind == HintKind::Edges && self.has_told {
                 self.ahead.arrives(hint.first);
             }
         }
@@ -204,7 +221,7 @@ impl<R: Wait + Clock + Drop, P: Preparer> Served<R, P> {
 
     // Reads blocks that are wanted soon. False: they are not read.
     fn read_ahead(&self, hint: Hint) -> bool {
-        let Some((turn, bytes)) = self.ahead.begin(BLOCK_LENGTH * usize::from(hint.blocks)) else {
+        let Some((place, bytes)) = self.ahead.begin(BLOCK_LENGTH * usize::from(hint.blocks)) else {
             return false;
         };
         let (disk, writes) = (self.disk, self.watch.writes(self.disk));
@@ -215,33 +232,33 @@ impl<R: Wait + Clock + Drop, P: Preparer> Served<R, P> {
         };
         match self.preparer.read(hint.first, bytes, false) {
             Some(memory) => {
-                self.ahead.end(turn, hint.first, behind(memory, beside));
+                self.ahead.end(place, hint.first, behind(memory, beside));
                 true
             }
             None => false,
         }
     }
 
-    // Reads what is read ahead. What is too much goes along with what is asked next.
+    // Reads ahead. What is too much for one answer goes along with what is asked next.
     fn read_on(&self) {
-        let mut room = AT_ONCE;
+        let mut room = MOST_AHEAD;
         for hint in &self.hints {
             let length = BLOCK_LENGTH * usize::from(hint.blocks);
             if !self.is_next(*hint) {
                 continue;
             }
-            let (suits, is_much) = (self.ahead.may_read_now(length), length > room);
+            let (may_read, is_much) = (self.ahead.may_read_now(length), length > room);
             room = room.saturating_sub(length);
-            if suits && is_much {
+            if may_read && is_much {
                 self.ahead.keep(&self.rt, *hint);
             }
-            if !suits || is_much || !self.has_time() || !self.read_ahead(*hint) {
+            if !may_read || is_much || !self.has_time() || !self.read_ahead(*hint) {
                 self.ahead.stays_away(hint.first);
             }
         }
     }
 
-    // Does what is wanted: whether a flush was done.
+    // Does what is wanted, but for a read, which has memory: whether a flush was done.
     fn does(&self, wanted: Wanted) -> bool
         ensures { IsTrue result → P.has_flushed self.now.disk }
     {
@@ -258,9 +275,7 @@ impl<R: Wait + Clock + Drop, P: Preparer> Served<R, P> {
 impl<R: Wait + Clock + Drop, P: Preparer> Runner<Favor<P>> for Served<R, P> {
     fn run(&mut self, favor: Favor<P>) -> Favor<P> {
         let wanted = favor.wanted;
-        if wanted != Wanted::Flush {
-            self.listen(wanted);
-        }
+        self.listen(wanted);
         let memory = match (wanted, favor.memory) {
             (Wanted::Read(first, is_looked_at), Some(memory)) => {
                 self.preparer.read(first, memory.bytes, is_looked_at)
@@ -269,6 +284,7 @@ impl<R: Wait + Clock + Drop, P: Preparer> Runner<Favor<P>> for Served<R, P> {
         };
         let is_flushed = self.does(wanted);
         self.arrive();
+        // else it is at work until it has read ahead
         if wanted != Wanted::Flush && !self.has_more {
             self.ahead.end_work();
         }

@@ -1,4 +1,4 @@
-//! Command descriptor blocks.
+//! From a command descriptor block (CDB) to the command that it asks for.
 ghost use Rattle.std.specs.Prelude.{◌≡◌, Result};
 ghost use Rattle.scsi_types.specs.declared.command.CdbFault.{CdbFault};
 ghost use Rattle.scsi_types.specs.declared.command.Command.{Command};
@@ -13,17 +13,18 @@ use crate::persistent_reserve::{persistent_reserve_in, persistent_reserve_out};
 use crate::port_groups::{report_target_port_groups, set_target_port_groups};
 use crate::{Asked, CdbFault, CdbForm, Command};
 
-/// What a CDB asks for (SPC-4, section 6; SBC-3, section 5). DPO, IMMED, the group number, the control byte, what is
-/// reserved and the bytes behind the end of a shorter CDB are not looked at.
+/// What a CDB asks for (SPC-4, section 6; SBC-3, section 5). All else of a CDB is not looked at: DPO, IMMED, DBD, the LBA and PMI of READ
+/// CAPACITY, the group number, the control byte, what is reserved, and the bytes behind the end of a shorter CDB.
 ///
-/// An operation code of no command, or one with a service action of no command, is `UnknownOpcode`. `BadField` is
+/// An operation code of no command is `UnknownOpcode`, and so is an unknown service action of the operation codes 9Eh, A3h and A4h.
+/// `BadField` is
 ///
-/// - a READ, WRITE or COMPARE AND WRITE with protection information, of more than 2048 blocks, or more than 32 for
-///   COMPARE AND WRITE;
-/// - REQUEST SENSE in descriptor format; an unknown page in INQUIRY, or one without EVPD; an unknown page or a
-///   subpage in MODE SENSE (saved values are no bad field); an unknown selection in REPORT LUNS;
-/// - an unknown action in PERSISTENT RESERVE IN and OUT; a RESERVE of another scope than the logical unit, or of an
-///   unknown type; another format than the plain one in REPORT TARGET PORT GROUPS.
+/// - a READ, WRITE or COMPARE AND WRITE whose RDPROTECT or WRPROTECT is not 0; a READ or WRITE of more than 2048 blocks; a COMPARE AND
+///   WRITE of more than 32;
+/// - REQUEST SENSE in descriptor format; an INQUIRY for an unknown VPD page, or with a PAGE CODE other than 0 without EVPD; an unknown page
+///   or a subpage in MODE SENSE (saved values are no bad field here); an unknown selection in REPORT LUNS;
+/// - an unknown service action of PERSISTENT RESERVE IN and OUT; a RESERVE of another scope than the logical unit, or of an unknown type; a
+///   PARAMETER DATA FORMAT other than 000b in REPORT TARGET PORT GROUPS.
 pub fn decode(cdb: &[u8; 16]) -> Asked
     ensures means { Means cdb.now result }
     ensures only { (asked : Result Command CdbFault) → Means cdb.now asked → asked ≡ result }

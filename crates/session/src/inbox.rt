@@ -1,3 +1,4 @@
+//! The bytes that came and are not consumed yet, and how more come.
 ghost use Rattle.std.specs.Prelude.{◌≡◌, ℕ, ◌+◌, ◌-◌, ◌<◌, ◌≤◌, List, [], length, take, drop, true, Err, IfOk, OnErr};
 ghost use Rattle.std.specs.Io.KnownBytes.{Keeps};
 ghost use Rattle.session_stream.specs.Source.{CountedRead};
@@ -12,12 +13,12 @@ use std::marker::Model;
 /// The most bytes of the memory: room for three PDUs of the longest and most of a fourth, so that reads take much at once.
 pub const INBOX_CAPACITY: usize = 262144;
 
-/// Where so many bytes lie in the memory, there is to be more of it: a host that writes much sends the next ones soon, and
-/// without room for them the waiting bytes would move for each read.
+/// Where what came reaches so far into the memory, consumed or not, there is to be more of it: a host that writes much sends the next bytes
+/// soon, and without room for them those that wait would move before each read.
 const MUCH_AT_ONCE: usize = 32768;
 
-/// Bytes that came and are not yet taken, in memory for one PDU at least, which was taken at the beginning. Where much comes
-/// at once, more is taken, if it is there.
+/// Bytes that came and are not consumed yet. Their memory, with room for one PDU, is allocated at the beginning; where much comes at once,
+/// more is, if there is any.
 #[derive(Drop)]
 pub struct Inbox {
     alloc: Global,
@@ -95,7 +96,7 @@ impl Inbox {
 
     /// One read, behind the bytes that wait: how many came. `Ok(0)` is the end of the input.
     ///
-    /// In all its memory there is always room for a whole PDU, so that waiting bytes move to the front but rarely.
+    /// In the larger memory there is mostly room for a whole PDU behind the bytes that wait, so they move to the front but rarely.
     pub fn fill<S: Source>(&mut self, source: &mut S, may_be_silent: bool) -> Result<usize, Unread>
         requires { length self.old < LONGEST_PDU }
         ensures ok { IfOk result (λ n. Filled (S.left source.old) (S.left source.new) self.old self.new n) }
@@ -117,7 +118,8 @@ impl Inbox {
     }
 }
 
-// Moves the bytes from `start` to `filled` to the front where no whole PDU has room behind them: where they start now.
+// Moves the bytes from `start` to `filled` to the front where no whole PDU has room behind them, unless they lie there. Returns where they
+// start then.
 fn make_room(bytes: &mut [u8], start: usize, filled: usize) -> usize
     requires within { (start ≤ filled) × (filled ≤ length bytes.old) }
     requires few { filled - start < length bytes.old }
@@ -127,7 +129,7 @@ fn make_room(bytes: &mut [u8], start: usize, filled: usize) -> usize
     if start == filled {
         return 0;
     }
-    if bytes.len() - filled >= LONGEST_PDU {
+    if start == 0 || bytes.len() - filled >= LONGEST_PDU {
         return start;
     }
     let waiting = filled - start;
@@ -136,7 +138,7 @@ fn make_room(bytes: &mut [u8], start: usize, filled: usize) -> usize
         front[..waiting].copy_from_slice(&back[..waiting]);
         return 0;
     }
-    // where they overlap with where they go, byte by byte, which takes longer
+    // Source and destination overlap: byte by byte, which takes longer.
     bytes.copy_within(start..filled, 0);
     0
 }

@@ -1,4 +1,4 @@
-//! What was submitted and collected.
+//! What is noted of each session, in the order in which it happened. Contracts speak of this list.
 use scsi_types::Reply;
 use unit_events::Job;
 
@@ -7,21 +7,21 @@ use unit_events::Job;
 pub enum What {
     /// It submitted its command, or submitted it once more.
     Submitted,
-    /// It collected the GOOD of what its unit was asked in place of its command, and a flush began behind that.
+    /// It collected GOOD for its command without the flush, and the flush has begun.
     FlushBegan,
     /// It collected this reply to this job, which is that of the entry at this place of the unit's history.
     Replied(Job, Reply, u64),
     /// It was told this of its command, whose flush was left to come behind it. The job is the command as it was asked. The entry at
-    /// this place of the unit's history is that of the command without its flush. Whether a flush was done behind it.
+    /// this place of the unit's history is that of the command without its flush. The last is whether a flush was done behind it.
     Settled(Job, Reply, u64, bool),
-    /// Its command ended in BUSY: the desk was full, there was no memory for its reply, or the unit had moved a second time.
+    /// Its command ended in BUSY: the desk was full or closed, there was no memory for its reply, or the unit had moved a second time.
     Busy,
-    /// Its session was gone.
+    /// Its unit answered that the session is gone there.
     Gone,
 }
 
 /// A submit, a collect, or the end of a flush: of which unit and session, the serial of the command, and how many entries the unit's
-/// history had.
+/// history had when it was noted.
 #[derive(Drop)]
 pub struct Note {
     pub place: usize,
