@@ -1,11 +1,11 @@
-//! What a change of access states comes to.
+//! What differs between two access maps of a unit.
 use scsi_types::Group;
 
-/// What a change of access states comes to.
+/// What differs between two access maps of a unit: the one before a change of access states, and the one behind it.
 #[derive(Clone, Copy, Debug)]
 pub struct Change {
-    /// Whether the state of group 1, and of group 2, is another.
+    /// Whether the state of group 1, and of group 2, has changed.
     pub changed: [bool; 2],
-    /// The new owner, where another group owns the unit.
+    /// The new owner; none where the owner stayed.
     pub owner: Option<Group>,
 }

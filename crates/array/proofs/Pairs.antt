@@ -7,7 +7,7 @@ use Rattle.portal.specs.declared.gate.Disks.{Ghosts as NamesOfDisks}
 use Rattle.unit_control.specs.State.{UnitState}
 use Rattle.unit_history.specs.Naming.{book_of, opening_of, table_of}
 use Rattle.unit_history.specs.declared.new_unit.NewUnit.{NewUnit}
-use Rattle.unit_sequence.specs.declared.naming.Array.{Ghosts as NamesOfUnits}
+use Rattle.unit_sequence.specs.declared.naming.Namings.{Ghosts as NamesOfUnits}
 
 -- the names of an array's units, as they are picked where their devices claim nothing
 abbrev pub names_of : {S B F O : Type 0} → List (NewUnit B F O) → NamesOfUnits S UnitState

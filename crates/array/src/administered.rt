@@ -14,7 +14,7 @@ use std::net::SocketAddrV4;
 use std::sync::Wait;
 use std::time::Clock;
 use unit_history::Opened;
-use unit_sequence::Array as Naming;
+use unit_sequence::Namings;
 use window::Registration;
 
 /// What is asked of an array that is served: by this trait who asks has one type for all that it is made of.
@@ -45,7 +45,7 @@ pub(crate) trait Administered {
 }
 
 // As its console sees it.
-fn operated<'a, R: Wait + Clock, B: Blocks, F: Blocks, O: Opener<B>, N: Naming<Opened>, G: Drop>(
+fn operated<'a, R: Wait + Clock, B: Blocks, F: Blocks, O: Opener<B>, N: Namings<Opened>, G: Drop>(
     rt: &'a R,
     server: &'a Server<Controllers<B, F, O, N>, G>,
 ) -> Operated<'a, R, B, F, O, N> {
@@ -56,7 +56,7 @@ fn operated<'a, R: Wait + Clock, B: Blocks, F: Blocks, O: Opener<B>, N: Naming<O
     }
 }
 
-impl<B: Blocks, F: Blocks, O: Opener<B>, N: Naming<Opened>, G: Drop> Administered
+impl<B: Blocks, F: Blocks, O: Opener<B>, N: Namings<Opened>, G: Drop> Administered
     for Server<Controllers<B, F, O, N>, G> {
     fn log(&self) -> &Log {
         &self.log

@@ -11,7 +11,7 @@ use status::Row;
 use std::sync::Wait;
 use std::time::Clock;
 use unit_history::Opened;
-use unit_sequence::Array as Naming;
+use unit_sequence::Namings;
 use unit_state::MoveFault;
 
 /// The code of the access state unavailable (SPC-4, 5.15.2.2).
@@ -22,7 +22,7 @@ type States = [(u64, u64); MAX_UNITS];
 
 /// Both controllers, as the console sees them.
 #[derive(Drop)]
-pub struct Operated<'a, R: Wait + Clock, B: Blocks, F: Blocks, O: Opener<B>, N: Naming<Opened>> {
+pub struct Operated<'a, R: Wait + Clock, B: Blocks, F: Blocks, O: Opener<B>, N: Namings<Opened>> {
     pub rt: &'a R,
     pub controllers: &'a Controllers<B, F, O, N>,
     /// What happens is told to it.
@@ -82,7 +82,7 @@ fn tell_moves<R: Clock>(
 }
 
 /// The row of the unit at a place, where there is one.
-pub(crate) fn row_at<R: Wait, B: Blocks, F: Blocks, O: Opener<B>, N: Naming<Opened>>(
+pub(crate) fn row_at<R: Wait, B: Blocks, F: Blocks, O: Opener<B>, N: Namings<Opened>>(
     rt: &R,
     units: &Units<B, F, O, N>,
     place: usize,
@@ -93,7 +93,7 @@ pub(crate) fn row_at<R: Wait, B: Blocks, F: Blocks, O: Opener<B>, N: Naming<Open
     Some(units.read(rt, place))
 }
 
-impl<R: Wait + Clock, B: Blocks, F: Blocks, O: Opener<B>, N: Naming<Opened>> Operated<
+impl<R: Wait + Clock, B: Blocks, F: Blocks, O: Opener<B>, N: Namings<Opened>> Operated<
     '_,
     R,
     B,
@@ -134,7 +134,7 @@ impl<R: Wait + Clock, B: Blocks, F: Blocks, O: Opener<B>, N: Naming<Opened>> Ope
     }
 }
 
-impl<R: Wait + Clock, B: Blocks, F: Blocks, O: Opener<B>, N: Naming<Opened>> Operations
+impl<R: Wait + Clock, B: Blocks, F: Blocks, O: Opener<B>, N: Namings<Opened>> Operations
     for Operated<'_, R, B, F, O, N> {
     fn status(&mut self, unit: u8) -> Option<Row> {
         row_at(self.rt, self.controllers.units(), usize::from(unit))

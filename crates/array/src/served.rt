@@ -32,7 +32,7 @@ use std::sync::{Arc, Wait};
 use std::thread::Threads;
 use std::time::Clock;
 use unit_history::{LegalHistory, NewUnit, Opened, Pass};
-use unit_sequence::Array as Naming;
+use unit_sequence::Namings;
 
 // By what hosts find the array: the target's name, and where each controller's portals listen; and the log that is told.
 #[derive(Drop)]
@@ -71,7 +71,7 @@ type Lanes = ([Lane; 4], [Lane; 4]);
 
 // An array that is served, which its threads share.
 #[derive(Drop)]
-struct Served<'a, N: Naming<Opened>, B: Blocks, F: Blocks, O: Opener<B>, G: Drop, R> {
+struct Served<'a, N: Namings<Opened>, B: Blocks, F: Blocks, O: Opener<B>, G: Drop, R> {
     rt: &'a R,
     alloc: Global,
     server: Arc<Server<Controllers<B, F, O, N>, G>, Global>,
@@ -79,7 +79,7 @@ struct Served<'a, N: Naming<Opened>, B: Blocks, F: Blocks, O: Opener<B>, G: Drop
 
 impl<
     'a,
-    N: Naming<Opened> + Send + Sync + 'static,
+    N: Namings<Opened> + Send + Sync + 'static,
     B: Blocks + Send + Sync + 'static,
     F: Blocks + Send + Sync + 'static,
     O: Opener<B> + Send + Sync + 'static,
@@ -217,7 +217,7 @@ pub fn tell_want<R: Clock>(rt: &R, log: &Log, fault: Fault) {
 /// `quit`. Behind it the last lines of the log are written, and only then another server may have the files. The names of the
 /// units and of their disks are picked where it is called: the preparer at each place is of the file that the unit there is over.
 pub fn serve<
-    N: Naming<Opened> + Disks + Send + Sync + 'static,
+    N: Namings<Opened> + Disks + Send + Sync + 'static,
     B: Blocks + OnDisk + Send + Sync + 'static,
     F: Blocks + Send + Sync + 'static,
     O: Opener<B> + Send + Sync + 'static,

@@ -6,7 +6,7 @@ ghost use Rattle.block_file.specs.Failures.{last_count};
 ghost use Rattle.deadline.specs.Counted.{CountsRead, CountsWrite};
 ghost use Rattle.deadline.specs.Answers.{HasAnswered, HasFlushed, HasOpened, HasRead, HasWrittenSome, WereGiven};
 
-use crate::errand::{Errand, Served, Wanted};
+use crate::errand::{DeviceRunner, Errand, Wanted};
 use crate::hatch::Asker;
 use crate::watch::Watch;
 use block_file::{Blocks, DeviceFailed, Opener};
@@ -73,7 +73,7 @@ impl<
     {
         let count = blocks.count();
         let errand = Errand::new(alloc)?;
-        let served = Served { blocks, opener };
+        let served = DeviceRunner { blocks, opener };
         let asker = Asker::start(rt, alloc, served, errand, watch)?;
         Ok(Deadlined {
             rt: rt.clone()?,

@@ -122,7 +122,7 @@ impl<B: Blocks, O: Opener<B>> Errand<B, O> {
 
 /// A device with its opener, as its thread has them.
 #[derive(Drop)]
-pub(crate) struct Served<B: Blocks, O: Opener<B>> {
+pub(crate) struct DeviceRunner<B: Blocks, O: Opener<B>> {
     pub(crate) blocks: B,
     pub(crate) opener: O,
 }
@@ -138,7 +138,7 @@ fn is_run(count: u32, first: u32, length: usize) -> bool
     first as usize + blocks <= count as usize
 }
 
-impl<B: Blocks, O: Opener<B>> Served<B, O> {
+impl<B: Blocks, O: Opener<B>> DeviceRunner<B, O> {
     fn read(&mut self, first: u32, bytes: &mut [u8]) -> bool
         ensures { IsTrue result → HasRead B.claims B.contents first bytes.new }
     {
@@ -181,7 +181,7 @@ impl<B: Blocks, O: Opener<B>> Served<B, O> {
     }
 }
 
-impl<B: Blocks, O: Opener<B>> Runner<Errand<B, O>> for Served<B, O> {
+impl<B: Blocks, O: Opener<B>> Runner<Errand<B, O>> for DeviceRunner<B, O> {
     fn run(&mut self, errand: Errand<B, O>) -> Errand<B, O> {
         let wanted = errand.wanted;
         let mut bytes = errand.bytes;

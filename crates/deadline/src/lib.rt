@@ -7,10 +7,10 @@
 mod ahead;
 mod blocks;
 mod errand;
-mod favor;
 mod hatch;
 mod opener;
 mod prepared;
+mod preparer_errand;
 mod watch;
 
 pub use blocks::Deadlined;

@@ -4,8 +4,8 @@ ghost use Rattle.std.specs.Arc.{arc_value};
 ghost use Rattle.deadline.specs.Back.{had_come_back};
 
 use crate::ahead::{Ahead, Hint, HintKind, has_edges};
-use crate::favor::{Favor, Served, Wanted, behind};
 use crate::hatch::{Asker, FOR_ERRANDS};
+use crate::preparer_errand::{PreparerCall, PreparerErrand, PreparerRunner, behind};
 use crate::watch::Watch;
 use disk_preparer::{Beside, BlockMemory, Node, Preparer};
 use event_log::Call;
@@ -29,8 +29,8 @@ pub struct DeadlinedPreparer<R: Wait + Clock + Drop, P: Preparer> {
     preparer: Arc<P, Global>,
     node: Node,
     watch: Arc<Watch, Global>,
-    fetchers: Vec<Mutex<Asker<R, Favor<P>>>>,
-    flushers: Vec<Mutex<Asker<R, Favor<P>>>>,
+    fetchers: Vec<Mutex<Asker<R, PreparerErrand<P>>>>,
+    flushers: Vec<Mutex<Asker<R, PreparerErrand<P>>>>,
     turns: AtomicUsize,
     ahead: Arc<Ahead, Global>,
 }
@@ -61,12 +61,12 @@ fn askers<
     disk: Node,
     watch: &Arc<Watch, Global>,
     ahead: &Arc<Ahead, Global>,
-) -> io::Result<Vec<Mutex<Asker<R, Favor<P>>>>>
+) -> io::Result<Vec<Mutex<Asker<R, PreparerErrand<P>>>>>
     requires { P.disk (arc_value preparer.now) ≡ disk }
 {
     let mut askers = Vec::with_capacity(alloc, THREADS)?;
     for number in 0..THREADS {
-        let served = Served::new(
+        let served = PreparerRunner::new(
             rt.clone()?,
             alloc,
             Arc::try_clone(preparer)?,
@@ -74,13 +74,13 @@ fn askers<
             Arc::try_clone(watch)?,
             Arc::try_clone(ahead)?,
         )?;
-        let favor = Favor::of(Wanted::Flush, disk);
+        let errand = PreparerErrand::of(PreparerCall::Flush, disk);
         let looks = if number == 0 {
             FOR_ERRANDS
         } else {
             FOR_ERRANDS / 40
         };
-        askers.push(Mutex::new(Asker::start_looking(rt, alloc, served, favor, watch, looks)?))?;
+        askers.push(Mutex::new(Asker::start_looking(rt, alloc, served, errand, watch, looks)?))?;
     }
     Ok(askers)
 }
@@ -119,17 +119,17 @@ impl<
 
 // Has a thread do what is wanted: whether a flush was done.
 fn ask_by<R: Wait + Clock + Drop, P: Preparer>(
-    asker: &mut Asker<R, Favor<P>>,
-    wanted: Wanted,
+    asker: &mut Asker<R, PreparerErrand<P>>,
+    wanted: PreparerCall,
     disk: Node,
     call: Call,
 ) -> bool
     ensures { IsTrue result → P.has_flushed disk }
 {
-    let Some(_favor) = asker.take() else {
+    let Some(_errand) = asker.take() else {
         return false;
     };
-    let Some(answered) = asker.ask(Favor::of(wanted, disk), call) else {
+    let Some(answered) = asker.ask(PreparerErrand::of(wanted, disk), call) else {
         return false;
     };
     let is_flushed = answered.has_flushed(disk);
@@ -141,8 +141,8 @@ impl<R: Wait + Clock + Drop, P: Preparer> DeadlinedPreparer<R, P> {
     // One who asks and has nothing to do, or one for whom others wait too; none where there is none.
     fn free<'a>(
         &'a self,
-        askers: &'a [Mutex<Asker<R, Favor<P>>>],
-    ) -> Option<MutexGuard<'a, Asker<R, Favor<P>>>> {
+        askers: &'a [Mutex<Asker<R, PreparerErrand<P>>>],
+    ) -> Option<MutexGuard<'a, Asker<R, PreparerErrand<P>>>> {
         if askers.is_empty() {
             return None;
         }
@@ -171,7 +171,7 @@ impl<R: Wait + Clock + Drop, P: Preparer> DeadlinedPreparer<R, P> {
     }
 
     // Has a thread fetch blocks.
-    fn ask_fetcher(&self, wanted: Wanted) {
+    fn ask_fetcher(&self, wanted: PreparerCall) {
         if let Some(mut asker) = self.free(&self.fetchers) {
             ask_by(&mut asker, wanted, self.node, Call::Read);
         }
@@ -180,13 +180,13 @@ impl<R: Wait + Clock + Drop, P: Preparer> DeadlinedPreparer<R, P> {
 
 // Has a thread read blocks of this disk beside its device. None: the memory is gone.
 fn read_by<R: Wait + Clock + Drop, P: Preparer>(
-    asker: &mut Asker<R, Favor<P>>,
-    wanted: Wanted,
+    asker: &mut Asker<R, PreparerErrand<P>>,
+    wanted: PreparerCall,
     bytes: Vec<u8>,
     disk: Node,
 ) -> Option<BlockMemory> {
-    let _favor = asker.take()?;
-    let answered = asker.ask(Favor::reading(wanted, disk, bytes), Call::Read)?;
+    let _errand = asker.take()?;
+    let answered = asker.ask(PreparerErrand::reading(wanted, disk, bytes), Call::Read)?;
     let mut answered = answered;
     let memory = answered.memory.take();
     asker.keep(answered);
@@ -195,7 +195,7 @@ fn read_by<R: Wait + Clock + Drop, P: Preparer>(
 
 // Has a thread read blocks beside the device, behind such a look. None: the memory is gone.
 fn read_behind<R: Wait + Clock + Drop, P: Preparer>(
-    asker: &mut Asker<R, Favor<P>>,
+    asker: &mut Asker<R, PreparerErrand<P>>,
     beside: Beside,
     bytes: Vec<u8>,
     is_looked_at: bool,
@@ -204,7 +204,7 @@ fn read_behind<R: Wait + Clock + Drop, P: Preparer>(
     ensures { IfSome result (λ memory. length memory.bytes.items ≡ length bytes.items) }
 {
     let count = bytes.len();
-    let wanted = Wanted::Read(beside.first, is_looked_at);
+    let wanted = PreparerCall::Read(beside.first, is_looked_at);
     let memory = read_by(asker, wanted, bytes, beside.disk)?;
     if memory.bytes.len() != count {
         return None;
@@ -249,12 +249,12 @@ impl<R: Wait + Clock + Drop, P: Preparer> Preparer for DeadlinedPreparer<R, P> {
     }
 
     fn fetch(&self, first: u64, blocks: u16) {
-        self.ask_fetcher(Wanted::Fetch(first, blocks));
+        self.ask_fetcher(PreparerCall::Fetch(first, blocks));
     }
 
     fn fetch_edges(&self, first: u64, blocks: u16) {
         if has_edges(first, blocks) && !self.ahead.take_arrived(first) {
-            self.ask_fetcher(Wanted::FetchEdges(first, blocks));
+            self.ask_fetcher(PreparerCall::FetchEdges(first, blocks));
         }
     }
 
@@ -280,7 +280,7 @@ impl<R: Wait + Clock + Drop, P: Preparer> Preparer for DeadlinedPreparer<R, P> {
 
     fn flush(&self) -> bool {
         match self.free(&self.flushers) {
-            Some(mut asker) => ask_by(&mut asker, Wanted::Flush, self.node, Call::Flush),
+            Some(mut asker) => ask_by(&mut asker, PreparerCall::Flush, self.node, Call::Flush),
             None => false,
         }
     }

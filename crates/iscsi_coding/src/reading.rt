@@ -23,16 +23,19 @@ use iscsi_pdu::{
 fn is_initiators(opcode: u8) -> bool
     ensures { IsTrue result ↔ IsInitiatorOpcode opcode }
 {
+    // without SNACK (0x10), which error recovery level 0 does not have
     opcode <= 0x06
 }
 
 fn is_targets(opcode: u8) -> bool
     ensures { IsTrue result ↔ IsTargetOpcode opcode }
 {
+    // without Asynchronous Message (0x32), which this target never sends
     matches!(opcode, 0x20..=0x26 | 0x31 | 0x3F)
 }
 
-/// Whether this is a SCSI Command without F, or with both R and W.
+/// Whether this is a SCSI Command without F, which is always set where InitialR2T is Yes; or with both R and W, a bidirectional command,
+/// which is not served.
 fn has_bad_flags(bhs: &[u8; BHS_LENGTH]) -> bool
     ensures { IsTrue result ↔ HasBadFlags bhs.now }
 {
@@ -66,7 +69,8 @@ fn is_same(a: &[u8], b: &[u8]) -> bool
     a == b
 }
 
-/// A target's header, where this is its BHS.
+/// A target's header. It is spelled again and compared: whatever differs is a reserved field that is not zero. An initiator's reserved
+/// fields are ignored (RFC 7143, section 11); a target's PDU comes only to be rejected, or to a test, and has one spelling.
 fn target_header(b: &[u8; BHS_LENGTH], len: u32) -> Result<TargetHeader, PduFault>
     requires opcode { IsTargetOpcode (opcode_of b.now) }
     requires same_length { len ≡ three_at b.now 5 }

@@ -4,7 +4,8 @@ ghost use Rattle.login.specs.Table.{has_name, key_named, limits, row_of};
 
 use crate::value::{Limits, Rule, Value, Word};
 
-/// A key that this target knows (RFC 7143, section 13).
+/// A key that may be negotiated or declared in a login (RFC 7143, 12.1 and 13). SendTargets, which a login does not have, stands in
+/// `targets`.
 #[derive(Clone, Copy, PartialEq, Eq)]
 pub enum Key {
     AuthMethod,
@@ -46,7 +47,7 @@ const NO: Value = Value::Flag(false);
 
 const UNUSED: Value = Value::Word(Word::Unused);
 
-/// Every known key.
+/// Every key. A new one also has its row in `row`, and both in `specs/Table`.
 const KEYS: [Key; 25] = [
     Key::AuthMethod,
     Key::HeaderDigest,

@@ -10,9 +10,9 @@ use std::alloc::Global;
 use std::marker::Model;
 use std::sync::Wait;
 use unit_history::{LegalHistory, Opened, Pass as UnitPass};
-use unit_sequence::Array;
+use unit_sequence::Namings;
 
-impl<B: Blocks, F: Blocks, O: Opener<B>, N: Array<Opened>> Pass for UnitPass<B, F, O, N> {
+impl<B: Blocks, F: Blocks, O: Opener<B>, N: Namings<Opened>> Pass for UnitPass<B, F, O, N> {
     ghost held = { λ p. p };
 
     fn place(&self) -> usize {
@@ -26,13 +26,13 @@ impl<B: Blocks, F: Blocks, O: Opener<B>, N: Array<Opened>> Pass for UnitPass<B, 
 
 /// The units of an array, and a desk for each controller, to which sessions of both hand the commands of the units that it owns.
 /// Contracts see how many units there are.
-pub struct Controllers<B: Blocks, F: Blocks, O: Opener<B>, N: Array<Opened>> {
+pub struct Controllers<B: Blocks, F: Blocks, O: Opener<B>, N: Namings<Opened>> {
     units: Units<B, F, O, N>,
     first: Desk<B, F, O, N>,
     second: Desk<B, F, O, N>,
 }
 
-impl<B: Blocks, F: Blocks, O: Opener<B>, N: Array<Opened>> Drop for Controllers<B, F, O, N> {
+impl<B: Blocks, F: Blocks, O: Opener<B>, N: Namings<Opened>> Drop for Controllers<B, F, O, N> {
     fn drop(self) {
         let Self {
             units: _,
@@ -42,7 +42,7 @@ impl<B: Blocks, F: Blocks, O: Opener<B>, N: Array<Opened>> Drop for Controllers<
     }
 }
 
-impl<B: Blocks, F: Blocks, O: Opener<B>, N: Array<Opened>> Model for Controllers<B, F, O, N> {
+impl<B: Blocks, F: Blocks, O: Opener<B>, N: Namings<Opened>> Model for Controllers<B, F, O, N> {
     ghost use Rattle.std.specs.Prelude.{◌≡◌, ℕ};
     ghost use Rattle.scsi_types.specs.declared.names.Group.TheVariants.{One, Two};
 
@@ -53,7 +53,7 @@ impl<B: Blocks, F: Blocks, O: Opener<B>, N: Array<Opened>> Model for Controllers
     ghost invariant = { λ c. (c.first ≡ One) × (c.second ≡ Two) };
 }
 
-impl<B: Blocks, F: Blocks, O: Opener<B>, N: Array<Opened>> Controllers<B, F, O, N> {
+impl<B: Blocks, F: Blocks, O: Opener<B>, N: Namings<Opened>> Controllers<B, F, O, N> {
     /// Two controllers with these units. No lane is at their desks yet.
     pub fn new(alloc: Global, units: Units<B, F, O, N>) -> Result<Controllers<B, F, O, N>, NoMemory>
         ensures { IfOk result (λ controllers. controllers ≡ units) }
@@ -89,7 +89,7 @@ impl<B: Blocks, F: Blocks, O: Opener<B>, N: Array<Opened>> Controllers<B, F, O, 
     }
 }
 
-impl<B: Blocks, F: Blocks, O: Opener<B>, N: Array<Opened>> LogicalUnits<
+impl<B: Blocks, F: Blocks, O: Opener<B>, N: Namings<Opened>> LogicalUnits<
     UnitPass<B, F, O, N>,
     LegalHistory<B, F, O, N>,
 > for Controllers<B, F, O, N> {

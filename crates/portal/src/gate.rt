@@ -1,4 +1,4 @@
-//! What stands before a unit.
+//! The gate of a portal: what makes a disk ready before its unit is asked, and flushes it behind.
 ghost use Rattle.std.specs.Prelude.{ℕ, Bool, IsTrue, false};
 ghost use Rattle.portal.specs.Disks.{AreOver, no_file};
 ghost use Rattle.unit_lock.specs.Calls.{PlacedPass};
@@ -10,20 +10,21 @@ use disk_preparer::Preparer;
 use scsi_types::{Asked, Command};
 use std::marker::{Brand, Model, PhantomData};
 
-/// What each command passes before its unit is asked, and what makes last behind it what the unit was not asked to. It answers no
-/// command: it may take its time, and tell that a flush has failed.
+/// What each command passes before its unit is asked, and what flushes behind it, where the unit was asked without the flush. It makes no
+/// reply: it can only keep a command waiting, and say that its flush has failed.
 pub trait Gate {
     /// Whether flushes are ever left to it.
     ghost is_late: { Bool };
 
-    /// A flush is done that began when a session's pass was this. Nothing but a call of `flush_behind` says so.
+    /// A flush is done that began when a session's pass was this. That it began then follows from who may say it: a call of
+    /// `flush_behind` alone.
     ghost lasts: { PlacedPass Entry → Type 0 };
 
     /// The command with this serial of a session is about to be submitted to the unit at this place: what it needs is fetched first,
     /// unless it is read by `read`.
     fn fetch(&self, unit: usize, serial: u64, asked: &Asked);
 
-    /// The same for a READ: its blocks are read beside the unit, into the memory that is ready in this room, where that can be done. The
+    /// Of a READ without FUA: its blocks are read beside the unit, into the memory that is ready in this room, where that can be done. The
     /// unit takes them if no write has ended since, and else reads them once more.
     fn read(&self, _unit: usize, _serial: u64, _asked: &Asked, room: ReplyMemory) -> ReplyMemory {
         room
@@ -54,11 +55,12 @@ pub trait Disks {
     ghost disk: { ℕ → Node };
 }
 
+// A name that the caller of `serve` picks: its own meaning is never used.
 impl Disks for Brand {
     ghost disk = { λ place. no_file };
 }
 
-/// The gate of the product: each unit's disk is made ready for what is to come, and flushed, by a preparer of its own. Contracts see
+/// The gate over disks: each unit's disk is made ready for what is to come, and flushed, by a preparer of its own. Contracts see
 /// the preparers.
 #[derive(Drop)]
 pub struct Prepared<P: Preparer, N: Disks> {
@@ -99,7 +101,7 @@ impl<P: Preparer, N: Disks> Gate for Prepared<P, N> {
             return;
         };
         match asked {
-            // What is wanted of a command is asked once, and of these by `read`.
+            // `read` asks `wants` for these: it is asked once for each command, since asking may reset what it looks at.
             Ok(Command::Read { fua: false, .. }) => return,
             Ok(Command::Write { lba, blocks, .. }) => preparer.touch(serial, *lba, *blocks),
             _ => {}
@@ -108,17 +110,29 @@ impl<P: Preparer, N: Disks> Gate for Prepared<P, N> {
             return;
         }
         match asked {
-            Ok(Command::Read { lba, blocks, .. }) => preparer.fetch(*lba, *blocks),
+            Ok(
+                Command::Read {
+                    lba,
+                    blocks,
+                    fua: true,
+                },
+            ) => preparer.fetch(*lba, *blocks),
             Ok(Command::Write { lba, blocks, .. }) => preparer.fetch_edges(*lba, *blocks),
             Ok(Command::CompareAndWrite { lba, blocks, .. }) => preparer.fetch(*lba, *blocks),
             _ => {}
         }
     }
 
-    // With FUA the blocks come from the medium: these the unit alone reads. Where no memory is ready, they are only fetched.
+    // Not of a READ with FUA, which the unit reads itself, behind its flush. Where no memory is ready, the blocks are only fetched.
     fn read(&self, unit: usize, serial: u64, asked: &Asked, room: ReplyMemory) -> ReplyMemory {
         let (lba, blocks) = match asked {
-            Ok(Command::Read { lba, blocks, fua }) if !*fua => (*lba, *blocks),
+            Ok(
+                Command::Read {
+                    lba,
+                    blocks,
+                    fua: false,
+                },
+            ) => (*lba, *blocks),
             _ => return room,
         };
         let Some(preparer) = self.of.get(unit) else {

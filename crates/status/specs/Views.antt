@@ -1,4 +1,4 @@
--- What is known at each seat of a board.
+-- What is known at each seat of a board (its view), what a session's right says, and the rule that the words of a board keep.
 use Rattle.std.specs.Prelude.{◌≡◌, ℕ, ◌<◌, ◌≤◌, ◌⊎◌, List, [], ◌∷◌, length, true, false, Some, None}
 use Rattle.std.specs.List.{sum_by}
 use mathlib.Core.List.{IsPrefix}
@@ -15,13 +15,13 @@ words_of r = r.entries ∷ r.owner ∷ r.states.0 ∷ r.states.1 ∷ r.generatio
 abbrev pub counted : {E : Type 0} → (ℕ → E → ℕ) → ℕ → List E → ℕ
 counted mark session history = sum_by (mark session) history
 
--- a session's right: it has counted its own entries, and its commands among them
+-- what a session's right says: it has counted its own entries, and its commands among them
 pub record Claim : Type 0 where
   pub session : ℕ
   pub count : ℕ
   pub commands : ℕ
 
--- what was published, with a session's right in hand
+-- what was published, beside a session's right in hand
 pub record Handed (E : Type 0) : Type 0 where
   pub seen : List E
   pub claim : Claim
@@ -31,6 +31,9 @@ pub record PlacedClaim : Type 0 where
   pub place : ℕ
   pub claim : Claim
 
+-- A view has eight fields. `unborn`: nothing is published yet. `publishes`: it is the publisher's. `from`: the state in which the
+-- history opened, where that is known. `seen`: the beginning of the history that it knows. `claims`: it has a session's right, that of
+-- `session`, which has counted `count` own entries and `commands` commands among them.
 module _ {E S : Type 0} where
   -- before the board was opened
   abbrev pub first_view : View E S
@@ -44,27 +47,33 @@ module _ {E S : Type 0} where
   abbrev pub holder : S → List E → Claim → View E S
   holder s log c = record { unborn = false; publishes = true; from = Some s; seen = log; claims = true; session = c.session; count = c.count; commands = c.commands }
 
+  -- who only reads
   abbrev pub reader : S → List E → View E S
   reader s log = record { unborn = false; publishes = false; from = Some s; seen = log; claims = false; session = 0; count = 0; commands = 0 }
 
-  -- a session's right
+  -- a seat that has nothing but a session's right
   abbrev pub right : Claim → View E S
   right c = record { unborn = false; publishes = false; from = None; seen = []; claims = true; session = c.session; count = c.count; commands = c.commands }
 
+  -- a seat whose right was taken: nothing is known there, and the board is open
   abbrev pub nobody : View E S
   nobody = record { unborn = false; publishes = false; from = None; seen = []; claims = false; session = 0; count = 0; commands = 0 }
 
   -- ---- what becomes of views that are split or joined
 
+  -- a new reader, which splits from v
   abbrev pub reading : View E S → View E S
   reading v = record { unborn = false; publishes = false; from = v.from; seen = v.seen; claims = false; session = 0; count = 0; commands = 0 }
 
+  -- v, with the right of w in hand
   abbrev pub holding : View E S → View E S → View E S
   holding v w = record { unborn = false; publishes = v.publishes; from = v.from; seen = v.seen; claims = w.claims; session = w.session; count = w.count; commands = w.commands }
 
+  -- v without the right in its hand
   abbrev pub bare : View E S → View E S
   bare v = record { unborn = false; publishes = v.publishes; from = v.from; seen = v.seen; claims = false; session = 0; count = 0; commands = 0 }
 
+  -- that right alone
   abbrev pub right_of : View E S → View E S
   right_of v = record { unborn = false; publishes = false; from = None; seen = []; claims = v.claims; session = v.session; count = v.count; commands = v.commands }
 
@@ -95,7 +104,8 @@ module _ {E S : Type 0} (own command : ℕ → E → ℕ) where
         → (v.session < length log) × (counted own v.session log ≡ v.count) × (counted command v.session log ≡ v.commands)
 
   module _ (legal : S → List E → Type 0) (words_at : S → List E → List ℕ) where
-    -- the words are the row of the history that was published, which is legal, and no two seats have one session's right
+    -- The words are the row of the history that was published, which is legal; no entry counts for a session whose number is not given yet;
+    -- what is known at each seat fits; and no two seats have one session's right.
     pub record Kept (words : List ℕ) (views : List (View E S)) : Type 0 where
       pub seat : ℕ
       pub from : S
@@ -115,7 +125,7 @@ module _ {E S : Type 0} (own command : ℕ → E → ℕ) where
 abbrev pub worded : {E S : Type 0} → (S → List E → Row) → S → List E → List ℕ
 worded rows s log = words_of (rows s log)
 
--- a reader then sees all that was published
+-- A reader has looked: it has seen a legal history that begins with what it had seen, and whose row the words were.
 abbrev pub Looked : {E S : Type 0} → S → (S → List E → Type 0) → (S → List E → Row)
     → View E S → List ℕ → List ℕ → View E S → Type 0
 Looked s legal rows v before after w =

@@ -16,8 +16,9 @@ use disk_preparer::BlockMemory;
 use scsi_types::{Reply, Sense};
 use std::alloc::Global;
 
-/// READ: with FUA what was written is made to last first, so that it comes from the medium, and not from what the memory holds. The
-/// memory has as many bytes, goes to the device and comes back.
+/// READ into memory as long as the range, whose bytes come back where the end is Done. Without FUA the device may take what the memory
+/// holds, where that was read beside it. With FUA the device is flushed first and what the memory holds is forgotten, so the blocks are
+/// read behind the flush.
 pub fn read<B: Blocks>(
     device: &mut B,
     lba: u32,
@@ -114,7 +115,8 @@ pub fn flush<B: Blocks>(device: &mut B) -> MediumEnd
     sync(device)
 }
 
-/// How a medium command answers its end: with the bytes that were read where it is done.
+/// The reply to a command on the medium that ended so: with the bytes that were read where it is done. A flush that failed is WRITE ERROR,
+/// also that of a READ with FUA.
 pub fn medium_reply(alloc: Global, end: MediumEnd, read: Vec<u8>) -> Reply
     ensures { result ≡ reply_by (finding_at end read.items) }
 {

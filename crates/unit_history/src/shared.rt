@@ -17,7 +17,7 @@ use std::sync::Wait;
 use unit_entries::laws::a_unit_that_opened_has_the_history_without_an_entry;
 use unit_entries::{Arrival, Noted, Opened};
 use unit_lock::{LegalHistory as Seen, Pass as SessionPass, Refused};
-use unit_sequence::{Array, At};
+use unit_sequence::{At, Namings};
 use unit_state::{MoveFault, Unit};
 
 /// A session of a unit: what it has seen of the unit's history, and the one right to add the session's entries. Contracts see
@@ -45,18 +45,23 @@ pub type Seat<B, F, O, N, const U: usize> = BoardSeat<
 
 /// The unit at a place of an array, which all threads share: each call of any session is one step of it, at one point of one
 /// history.
-pub struct SharedUnit<B: Blocks, F: Blocks, O: Opener<B>, N: Array<Opened>, const U: usize> {
+pub struct SharedUnit<B: Blocks, F: Blocks, O: Opener<B>, N: Namings<Opened>, const U: usize> {
     unit: unit_lock::LockedUnit<Noted, Opened, Unit<B, F, O>, N, U>,
 }
 
-impl<B: Blocks + Drop, F: Blocks + Drop, O: Opener<B> + Drop, N: Array<Opened>, const U: usize> Drop
-    for SharedUnit<B, F, O, N, U> {
+impl<
+    B: Blocks + Drop,
+    F: Blocks + Drop,
+    O: Opener<B> + Drop,
+    N: Namings<Opened>,
+    const U: usize,
+> Drop for SharedUnit<B, F, O, N, U> {
     fn drop(self) {
         let Self { unit: _ } = self;
     }
 }
 
-impl<B: Blocks, F: Blocks, O: Opener<B>, N: Array<Opened>, const U: usize> SharedUnit<
+impl<B: Blocks, F: Blocks, O: Opener<B>, N: Namings<Opened>, const U: usize> SharedUnit<
     B,
     F,
     O,

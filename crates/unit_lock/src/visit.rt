@@ -1,4 +1,5 @@
-//! A session's pass under the lock.
+//! One call by a session's pass under the lock: `begin` takes the records and the pass, and the call ends by `finish`, with an entry, or by
+//! `give_back`, with none.
 ghost use Rattle.std.specs.Prelude.{◌≡◌, ◌+◌, ◌<◌, ◌^◌, ◌++◌, ◌∷◌, [], length, IsSome, Some};
 ghost use Rattle.status.specs.Views.{IsOwn, counted};
 ghost use Rattle.unit_lock.specs.Calls.{IsAdded, IsRefused, held};
@@ -11,12 +12,12 @@ use logbook::Plain;
 use status::{Holder, Published, Row};
 use std::marker::Model;
 use std::sync::Wait;
-use unit_sequence::{Answer, Array, At, History, Recorder};
+use unit_sequence::{Answer, At, History, Namings, Recorder};
 
-/// A session's pass, whose right is in hand, beside the whole history: nothing of the session's own came since its pass saw
-/// it. Contracts see the pass and the history.
+/// A session's pass, whose right is in hand, beside the whole history: nothing of the session's own came since what its pass
+/// has seen. Contracts see the pass and the history.
 #[derive(Drop)]
-pub(crate) struct Visit<E, S, P: Published<E, S>, N: Array<S>, const U: usize> {
+pub(crate) struct Visit<E, S, P: Published<E, S>, N: Namings<S>, const U: usize> {
     session: u64,
     serial: u64,
     seen: History<E, At<S, N, U>>,
@@ -24,7 +25,7 @@ pub(crate) struct Visit<E, S, P: Published<E, S>, N: Array<S>, const U: usize> {
     holder: Holder<E, S, P, At<S, N, U>>,
 }
 
-impl<E, S, P: Published<E, S>, N: Array<S>, const U: usize> Model for Visit<E, S, P, N, U> {
+impl<E, S, P: Published<E, S>, N: Namings<S>, const U: usize> Model for Visit<E, S, P, N, U> {
     ghost use Rattle.std.specs.Prelude.{◌≡◌, ◌≤◌, ◌+◌};
     ghost use mathlib.Core.List.{IsPrefix};
     ghost use Rattle.status.specs.Views.{counted};
@@ -39,7 +40,7 @@ impl<E, S, P: Published<E, S>, N: Array<S>, const U: usize> Model for Visit<E, S
         × (counted P.own v.session v.recorder ≡ v.holder.claim.count) × IsPrefix v.seen v.recorder };
 }
 
-impl<E, S, X: Machine<E, S>, N: Array<S>, const U: usize> Visit<E, S, X, N, U> {
+impl<E, S, X: Machine<E, S>, N: Namings<S>, const U: usize> Visit<E, S, X, N, U> {
     /// Takes the records out of their place, and the right of a pass in hand; and finds that what the pass has seen begins the
     /// history, that nothing of the session's own came since, and that the pass's serial is that behind the session's commands.
     pub(crate) fn begin<R: Wait>(
@@ -77,7 +78,7 @@ impl<E, S, X: Machine<E, S>, N: Array<S>, const U: usize> Visit<E, S, X, N, U> {
     }
 }
 
-impl<E, S, P: Published<E, S>, N: Array<S>, const U: usize> Visit<E, S, P, N, U> {
+impl<E, S, P: Published<E, S>, N: Namings<S>, const U: usize> Visit<E, S, P, N, U> {
     /// Adds an entry of the session's own, after which it has this serial, puts the records back in their place, and gives the
     /// pass back, which has seen the entry.
     pub(crate) fn finish<A, M: Plain<A, E, Answer>, R: Wait>(
@@ -137,8 +138,8 @@ impl<E, S, P: Published<E, S>, N: Array<S>, const U: usize> Visit<E, S, P, N, U>
         self.finish::<u64, M, R>(rt, posted, place, row, &session, serial)
     }
 
-    /// Puts the records back in their place, and gives the pass back, which has seen all of the history.
-    pub(crate) fn leave(
+    /// Adds no entry: puts the records back in their place, and gives the pass back, which has seen all of the history.
+    pub(crate) fn give_back(
         self,
         posted: &Posted<E, S, P, At<S, N, U>>,
         place: &mut Option<Records<E, S, P, At<S, N, U>>>,

@@ -12,6 +12,6 @@ mod recorder;
 mod right;
 
 pub use history::{AnyHistory, History};
-pub use naming::{Array, At, Naming};
+pub use naming::{At, Naming, Namings};
 pub use recorder::{HistoryWord, NewHistory, Recorder};
 pub use right::{Answer, Counted, Law, Right, start, take};

@@ -10,7 +10,7 @@ pub trait Naming {
 
 /// The units of an array by their places: which word counts a unit's history, which table its board stands in, and the state
 /// that it opened in.
-pub trait Array<S> {
+pub trait Namings<S> {
     ghost use Rattle.std.specs.Prelude.{ℕ};
     ghost use Rattle.logbook.specs.Pages.{Book};
     ghost use Rattle.atomic_table.specs.Seated.{TableId};
@@ -23,9 +23,9 @@ pub trait Array<S> {
 }
 
 /// The naming of the unit at one place of an array.
-pub struct At<S, N: Array<S>, const U: usize>(PhantomData<(S, N)>);
+pub struct At<S, N: Namings<S>, const U: usize>(PhantomData<(S, N)>);
 
-impl<S, N: Array<S>, const U: usize> Naming for At<S, N, U> {
+impl<S, N: Namings<S>, const U: usize> Naming for At<S, N, U> {
     ghost book = { N.book U };
 }
 

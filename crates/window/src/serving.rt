@@ -41,7 +41,7 @@ const CONFIG: Config = Config {
     read_size: 2048,
 };
 
-// What is left of so many milliseconds that began then; none: they are over.
+// What is left of so many milliseconds that began then; TimedOut where that is no more than one, as a time of 0 is refused.
 fn left<R: Clock>(rt: &R, began: Duration, patience: u64) -> io::Result<Duration> {
     let gone = rt.monotonic()?.saturating_sub(began);
     match Duration::from_millis(patience).checked_sub(gone) {
@@ -50,7 +50,7 @@ fn left<R: Clock>(rt: &R, began: Duration, patience: u64) -> io::Result<Duration
     }
 }
 
-// Calls of the library, each by one that promises nothing: what these promise would be a part of each proof below.
+// Each call of `http_server` has a function here without a contract, so that the library's clauses stay out of the proofs below.
 fn connection(alloc: Global, keys: RandomState) -> Connection {
     Connection::new(alloc, keys, CONFIG)
 }
@@ -127,7 +127,7 @@ fn attend<R: Clock + RandomSource, S: Collector>(
     finish(rt, stream)
 }
 
-// Serves a connection, which is one less then.
+// Serves a connection, and counts it off.
 fn work<R: Clock + RandomSource, S: Collector>(
     rt: &R,
     alloc: Global,
@@ -158,7 +158,7 @@ fn start<
     Ok(())
 }
 
-// Accepts connections, a thread each, as long as there are not too many.
+// Accepts connections, a thread each. Where there are too many, one is closed at once.
 fn accept<
     R: Threads + Clock + RandomSource + Clone + Drop + Send + 'static,
     S: Collector + Drop + Send + Sync + 'static,

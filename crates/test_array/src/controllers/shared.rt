@@ -16,7 +16,7 @@ use std::sync::Wait;
 use std::test::Fail;
 use std::thread::Threads;
 use unit_history::{NewUnit, Opened, Pass, Refused};
-use unit_sequence::Array as Naming;
+use unit_sequence::Namings;
 use unit_state::MoveFault;
 
 fn end_of(reply: &Reply) -> End {
@@ -46,7 +46,7 @@ fn end_at(fault: DeskFault) -> End {
 
 /// Units that threads share, whose registration files lie in memory, and the desk of their first controller.
 #[derive(Drop)]
-struct Shared<W: Wait + Drop, B: Blocks, O: Opener<B>, N: Naming<Opened>> {
+struct Shared<W: Wait + Drop, B: Blocks, O: Opener<B>, N: Namings<Opened>> {
     rt: W,
     alloc: Global,
     units: Units<B, MemBlocks, O, N>,
@@ -55,13 +55,13 @@ struct Shared<W: Wait + Drop, B: Blocks, O: Opener<B>, N: Naming<Opened>> {
 
 /// The session of a host at one of them: its pass, the ticket of its command that waits at the desk, and the last reply.
 #[derive(Drop)]
-struct Host<B: Blocks, O: Opener<B>, N: Naming<Opened>> {
+struct Host<B: Blocks, O: Opener<B>, N: Namings<Opened>> {
     pass: Option<Pass<B, MemBlocks, O, N>>,
     ticket: Option<Ticket<'static, B, MemBlocks, O, N>>,
     reply: Option<Reply>,
 }
 
-impl<B: Blocks, O: Opener<B>, N: Naming<Opened>> Host<B, O, N> {
+impl<B: Blocks, O: Opener<B>, N: Namings<Opened>> Host<B, O, N> {
     // Keeps the pass, and the reply, which is told in short.
     fn keep(&mut self, pass: Pass<B, MemBlocks, O, N>, end: Result<Reply, Refused<Group>>) -> End {
         self.pass = Some(pass);
@@ -79,7 +79,7 @@ impl<B: Blocks, O: Opener<B>, N: Naming<Opened>> Host<B, O, N> {
     }
 }
 
-impl<W: Wait + Drop, B: Blocks, O: Opener<B>, N: Naming<Opened>> Shared<W, B, O, N> {
+impl<W: Wait + Drop, B: Blocks, O: Opener<B>, N: Namings<Opened>> Shared<W, B, O, N> {
     // Takes the pass of a host, where it has one, of a unit that there is.
     fn pass_of(&self, host: &mut Host<B, O, N>) -> Option<Pass<B, MemBlocks, O, N>>
         ensures { IfSome result (λ pass. pass.place < self.now.units) }
@@ -93,7 +93,7 @@ impl<W: Wait + Drop, B: Blocks, O: Opener<B>, N: Naming<Opened>> Shared<W, B, O,
     }
 }
 
-impl<W: Wait + Drop, B: Blocks, O: Opener<B>, N: Naming<Opened>> Array<Host<B, O, N>>
+impl<W: Wait + Drop, B: Blocks, O: Opener<B>, N: Namings<Opened>> Array<Host<B, O, N>>
     for Shared<W, B, O, N> {
     fn attach(&self, place: usize, isid: u32, group: Group) -> Option<Host<B, O, N>> {
         if place >= self.units.count() {
@@ -251,7 +251,7 @@ impl<W: Wait + Drop, B: Blocks, O: Opener<B>, N: Naming<Opened>> Array<Host<B, O
 
 /// Shares these units, and tells a tale of them.
 pub fn tell<
-    N: Naming<Opened> + Send + Sync,
+    N: Namings<Opened> + Send + Sync,
     B: Blocks + Send + Sync,
     O: Opener<B> + Send + Sync,
     W: Threads + Wait + Clone + Send + Sync + Drop,

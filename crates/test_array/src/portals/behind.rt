@@ -8,7 +8,7 @@ use std::sync::Wait;
 use std::test::Fail;
 use std::time::Clock;
 use unit_history::Opened;
-use unit_sequence::Array as Naming;
+use unit_sequence::Namings;
 
 /// What a script asks of an array, but not through its portals.
 pub trait Console {
@@ -24,12 +24,12 @@ pub trait Console {
 
 /// The controllers of an array.
 #[derive(Drop)]
-pub struct Behind<'a, R: Wait, B: Blocks, F: Blocks, O: Opener<B>, N: Naming<Opened>> {
+pub struct Behind<'a, R: Wait, B: Blocks, F: Blocks, O: Opener<B>, N: Namings<Opened>> {
     pub rt: &'a R,
     pub controllers: &'a Controllers<B, F, O, N>,
 }
 
-impl<R: Wait + Clock, B: Blocks, F: Blocks, O: Opener<B>, N: Naming<Opened>> Console
+impl<R: Wait + Clock, B: Blocks, F: Blocks, O: Opener<B>, N: Namings<Opened>> Console
     for Behind<'_, R, B, F, O, N> {
     fn entries(&self, unit: u8) -> Option<u64> {
         let units = self.controllers.units();

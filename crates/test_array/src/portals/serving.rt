@@ -25,7 +25,7 @@ use std::sync::{Arc, Wait};
 use std::thread::{JoinHandle, Threads};
 use std::time::Clock;
 use unit_history::{LegalHistory, NewUnit, Opened, Pass};
-use unit_sequence::Array as Naming;
+use unit_sequence::Namings;
 
 /// What the hosts of an array do, of one unit or of two, and where it listens: at this address, and at these ports of its two
 /// controllers. So many connections to each find no thread. The last unit is opened anew so often. What a host sends goes out in
@@ -104,7 +104,7 @@ fn bind<R: Abort + Net<Listener = TcpListener, Stream = TcpStream>>(
 
 // Serves a portal of a group, whose controller has its lanes.
 fn serve<
-    N: Naming<Opened> + Send + Sync + 'static,
+    N: Namings<Opened> + Send + Sync + 'static,
     B: Blocks + Send + Sync + 'static,
     F: Blocks + Send + Sync + 'static,
     O: Opener<B> + Send + Sync + 'static,
@@ -160,7 +160,7 @@ fn performed<R: Abort + Eprint, S: Scene>(
 }
 
 // What serves these units, behind a gate at which nothing hangs yet, at these portals.
-fn server_of<N: Naming<Opened>, B: Blocks, F: Blocks, O: Opener<B>, R>(
+fn server_of<N: Namings<Opened>, B: Blocks, F: Blocks, O: Opener<B>, R>(
     rt: &R,
     alloc: Global,
     new: Vec<NewUnit<B, F, O>>,
@@ -195,7 +195,7 @@ fn gate<R: Wait + Abort + Clone + Drop>(rt: &R) -> Doors<R> {
 
 // Hosts perform a script before these portals: the hosts.
 fn performed_before<
-    N: Naming<Opened>,
+    N: Namings<Opened>,
     B: Blocks,
     F: Blocks,
     O: Opener<B>,
@@ -247,7 +247,7 @@ impl<
     /// Serves these units, whose devices may hang at this latch, while hosts perform a script: the ports, and the hosts, whose
     /// sessions may still be open.
     pub fn perform<
-        N: Naming<Opened> + Send + Sync + 'static,
+        N: Namings<Opened> + Send + Sync + 'static,
         B: Blocks + Send + Sync + 'static,
         F: Blocks + Send + Sync + 'static,
         O: Opener<B> + Send + Sync + 'static,

@@ -3,8 +3,8 @@ use Rattle.portal.specs.Disks.{named_by}
 use Rattle.unit_history.specs.Naming.{book_of, opening_of, table_of}
 use Rattle.test_array.proofs.whole.units_have_their_files_and_portals_their_groups.Given as goal
 
-abbrev pub ghosts-serve-N-Array : goal.ghosts-serve-N-Array
-ghosts-serve-N-Array g a = record {
+abbrev pub ghosts-serve-N-Namings : goal.ghosts-serve-N-Namings
+ghosts-serve-N-Namings g a = record {
   book = book_of a.array.units.items;
   table = table_of a.array.units.items;
   opening = opening_of (λ d. []) a.array.units.items;

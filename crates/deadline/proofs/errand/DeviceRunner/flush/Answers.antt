@@ -1,4 +1,4 @@
-use Rattle.deadline.proofs.errand.Served.flush.Goals as goal
+use Rattle.deadline.proofs.errand.DeviceRunner.flush.Goals as goal
 
 pub returns-in-Ok : goal.returns-in-Ok
 returns-in-Ok g c =

@@ -21,7 +21,7 @@ const MOST_AHEAD: usize = 524_288;
 
 /// What a preparer is asked.
 #[derive(Clone, Copy, PartialEq, Eq)]
-pub(crate) enum Wanted {
+pub(crate) enum PreparerCall {
     /// That so many blocks from this one on be in the system's memory.
     Fetch(u64, u16),
     /// That the pages be there of which a write of so many blocks from this one on changes a part.
@@ -34,8 +34,8 @@ pub(crate) enum Wanted {
 
 /// What a thread of a preparer is asked and gives back: what is wanted, the memory of a read, and whether a flush was done.
 #[derive(Drop)]
-pub(crate) struct Favor<P: Preparer> {
-    wanted: Wanted,
+pub(crate) struct PreparerErrand<P: Preparer> {
+    wanted: PreparerCall,
     // Whose flush it is.
     disk: Node,
     is_flushed: bool,
@@ -43,7 +43,7 @@ pub(crate) struct Favor<P: Preparer> {
     of: PhantomData<P>,
 }
 
-impl<P: Preparer> Model for Favor<P> {
+impl<P: Preparer> Model for PreparerErrand<P> {
     ghost use Rattle.std.specs.Prelude.{◌≡◌, Bool, true};
     ghost use Rattle.disk_preparer.specs.declared.Node.{Node};
 
@@ -54,10 +54,10 @@ impl<P: Preparer> Model for Favor<P> {
     ghost invariant = { λ f. f.is_flushed ≡ true → P.has_flushed f.disk };
 }
 
-impl<P: Preparer> Favor<P> {
+impl<P: Preparer> PreparerErrand<P> {
     // One that is not done yet.
-    pub(crate) fn of(wanted: Wanted, disk: Node) -> Favor<P> {
-        Favor {
+    pub(crate) fn of(wanted: PreparerCall, disk: Node) -> PreparerErrand<P> {
+        PreparerErrand {
             wanted,
             disk,
             is_flushed: false,
@@ -67,8 +67,8 @@ impl<P: Preparer> Favor<P> {
     }
 
     // One that reads, into this memory.
-    pub(crate) fn reading(wanted: Wanted, disk: Node, bytes: Vec<u8>) -> Favor<P> {
-        Favor {
+    pub(crate) fn reading(wanted: PreparerCall, disk: Node, bytes: Vec<u8>) -> PreparerErrand<P> {
+        PreparerErrand {
             wanted,
             disk,
             is_flushed: false,
@@ -103,7 +103,7 @@ pub(crate) fn behind(memory: BlockMemory, beside: Beside) -> BlockMemory
 
 /// A preparer, as one of its threads has it.
 #[derive(Drop)]
-pub(crate) struct Served<R: Wait + Clock + Drop, P: Preparer> {
+pub(crate) struct PreparerRunner<R: Wait + Clock + Drop, P: Preparer> {
     rt: R,
     preparer: Arc<P, Global>,
     disk: Node,
@@ -123,14 +123,14 @@ pub(crate) struct Served<R: Wait + Clock + Drop, P: Preparer> {
 }
 
 // The first block of what is read.
-fn first_of(wanted: Wanted) -> Option<u64> {
+fn first_of(wanted: PreparerCall) -> Option<u64> {
     match wanted {
-        Wanted::Read(first, _) => Some(first),
+        PreparerCall::Read(first, _) => Some(first),
         _ => None,
     }
 }
 
-impl<R: Wait + Clock + Drop, P: Preparer> Served<R, P> {
+impl<R: Wait + Clock + Drop, P: Preparer> PreparerRunner<R, P> {
     /// The preparer of this disk; `ahead` has the hints of calls that are to come.
     pub(crate) fn new(
         rt: R,
@@ -139,10 +139,10 @@ impl<R: Wait + Clock + Drop, P: Preparer> Served<R, P> {
         disk: Node,
         watch: Arc<Watch, Global>,
         ahead: Arc<Ahead, Global>,
-    ) -> Result<Served<R, P>, AllocError>
+    ) -> Result<PreparerRunner<R, P>, AllocError>
         requires { P.disk (arc_value preparer) ≡ disk }
     {
-        Ok(Served {
+        Ok(PreparerRunner {
             rt,
             preparer,
             disk,
@@ -196,10 +196,10 @@ impl<R: Wait + Clock + Drop, P: Preparer> Served<R, P> {
     }
 
     // Takes the hints and passes them on, before what is wanted is done. A flush takes none, and reads nothing ahead.
-    fn listen(&mut self, wanted: Wanted) {
+    fn listen(&mut self, wanted: PreparerCall) {
         self.hints.clear();
         self.has_more = false;
-        if wanted == Wanted::Flush {
+        if wanted == PreparerCall::Flush {
             return;
         }
         self.ahead.begin_work();
@@ -259,25 +259,25 @@ impl<R: Wait + Clock + Drop, P: Preparer> Served<R, P> {
     }
 
     // Does what is wanted, but for a read, which has memory: whether a flush was done.
-    fn does(&self, wanted: Wanted) -> bool
+    fn does(&self, wanted: PreparerCall) -> bool
         ensures { IsTrue result → P.has_flushed self.now.disk }
     {
         match wanted {
-            Wanted::Fetch(first, blocks) => self.preparer.fetch(first, blocks),
-            Wanted::FetchEdges(first, blocks) => self.preparer.fetch_edges(first, blocks),
-            Wanted::Flush => return self.preparer.flush(),
-            Wanted::Read(..) => {}
+            PreparerCall::Fetch(first, blocks) => self.preparer.fetch(first, blocks),
+            PreparerCall::FetchEdges(first, blocks) => self.preparer.fetch_edges(first, blocks),
+            PreparerCall::Flush => return self.preparer.flush(),
+            PreparerCall::Read(..) => {}
         }
         false
     }
 }
 
-impl<R: Wait + Clock + Drop, P: Preparer> Runner<Favor<P>> for Served<R, P> {
-    fn run(&mut self, favor: Favor<P>) -> Favor<P> {
-        let wanted = favor.wanted;
+impl<R: Wait + Clock + Drop, P: Preparer> Runner<PreparerErrand<P>> for PreparerRunner<R, P> {
+    fn run(&mut self, errand: PreparerErrand<P>) -> PreparerErrand<P> {
+        let wanted = errand.wanted;
         self.listen(wanted);
-        let memory = match (wanted, favor.memory) {
-            (Wanted::Read(first, is_looked_at), Some(memory)) => {
+        let memory = match (wanted, errand.memory) {
+            (PreparerCall::Read(first, is_looked_at), Some(memory)) => {
                 self.preparer.read(first, memory.bytes, is_looked_at)
             }
             _ => None,
@@ -285,10 +285,10 @@ impl<R: Wait + Clock + Drop, P: Preparer> Runner<Favor<P>> for Served<R, P> {
         let is_flushed = self.does(wanted);
         self.arrive();
         // else it is at work until it has read ahead
-        if wanted != Wanted::Flush && !self.has_more {
+        if wanted != PreparerCall::Flush && !self.has_more {
             self.ahead.end_work();
         }
-        Favor {
+        PreparerErrand {
             wanted,
             disk: self.disk,
             is_flushed,
