@@ -3,8 +3,7 @@ ghost use Rattle.std.specs.Prelude.{MatchOption};
 ghost use Rattle.scsi_types.specs.declared.form.CdbForm.TheVariants as forms;
 ghost use Rattle.scsi_types.specs.declared.pages.ModePage.{ModePage};
 ghost use Rattle.scsi_types.specs.declared.pages.PageControl.{PageControl};
-ghost use Rattle.scsi_types.specs.Cdb.{Decodes, IsModeSense, SensesMode};
-ghost use Rattle.scsi_types.specs.Found.{IsFoundBy};
+ghost use Rattle.scsi_types.specs.Cdb.{Decodes, IsModeSense};
 
 use crate::{Command, InquiryPage, LunSelect, ModeHeader, ModePage, PageControl};
 use byteorder::{BigEndian, ByteOrder};
@@ -41,33 +40,34 @@ fn mode_page(cdb: &[u8; 16]) -> Option<(PageControl, ModePage)>
     Some((PageControl::of(cdb[2] / 64), page))
 }
 
-// A MODE SENSE whose data are to have this header, with this allocation length.
-fn mode_sense(cdb: &[u8; 16], header: ModeHeader, allocation: u16) -> Option<Command>
-    ensures { IsFoundBy (SensesMode header allocation cdb.now) result }
+/// MODE SENSE (6) (6.13).
+pub fn mode_sense_6(cdb: &[u8; 16]) -> Option<Command>
+    ensures { Decodes forms.ModeSense6 cdb.now result }
 {
     let Some((control, page)) = mode_page(cdb) else {
         return None;
     };
     Some(Command::ModeSense {
-        header,
+        header: ModeHeader::Six,
         control,
         page,
-        allocation,
+        allocation: u16::from(cdb[4]),
     })
-}
-
-/// MODE SENSE (6) (6.13).
-pub fn mode_sense_6(cdb: &[u8; 16]) -> Option<Command>
-    ensures { Decodes forms.ModeSense6 cdb.now result }
-{
-    mode_sense(cdb, ModeHeader::Six, u16::from(cdb[4]))
 }
 
 /// MODE SENSE (10) (6.14).
 pub fn mode_sense_10(cdb: &[u8; 16]) -> Option<Command>
     ensures { Decodes forms.ModeSense10 cdb.now result }
 {
-    mode_sense(cdb, ModeHeader::Ten, BigEndian::read_u16(&cdb[7..]))
+    let Some((control, page)) = mode_page(cdb) else {
+        return None;
+    };
+    Some(Command::ModeSense {
+        header: ModeHeader::Ten,
+        control,
+        page,
+        allocation: BigEndian::read_u16(&cdb[7..]),
+    })
 }
 
 /// REPORT LUNS (6.33).
