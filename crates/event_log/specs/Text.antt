@@ -20,6 +20,8 @@ use Rattle.event_log.specs.declared.event.Path.{Path}
 use Rattle.event_log.specs.declared.event.Place.{Place}
 use Rattle.event_log.specs.declared.event.By.{By}
 use Rattle.event_log.specs.declared.event.By.TheVariants.{Console, Session}
+use Rattle.event_log.specs.declared.line.Piece.{Piece}
+use Rattle.event_log.specs.declared.line.Piece.TheVariants as pieces
 use Rattle.event_log.specs.declared.event.Event.{Event}
 use Rattle.event_log.specs.declared.event.Event.TheVariants as events
 use Rattle.event_log.specs.Words.{access_text, session_type_text, stayed_text, action_text, operation_text, part_text, call_text, resource_text}
@@ -60,6 +62,14 @@ joined text (part ∷ parts) = joined (text ++ part) parts
 
 abbrev pub hex : ℕ → List ℕ
 hex n = digits 16 false n
+
+-- what stands in a line for a piece of it
+abbrev pub piece_text : Piece → List ℕ
+piece_text (pieces.Text text) = text.now
+piece_text (pieces.Number n) = decimal n
+piece_text (pieces.Hex n) = hex n
+piece_text (pieces.Address a) = socket_v4_text a
+piece_text (pieces.Name name) = quoted name.now
 
 abbrev pub initiator_in : Initiator → List (List ℕ) → List (List ℕ)
 initiator_in who rest = codes " initiator=" ∷ quoted who.name.now ∷ codes " isid=0x" ∷ hex who.isid ∷ rest

@@ -1,10 +1,22 @@
-//! Names in a line.
-ghost use Rattle.std.specs.Prelude.{◌≡◌, ◌++◌, ◌∷◌, [], ◌<◌, ◌/◌, ◌%◌, OnOk};
+//! The pieces of a line.
+ghost use Rattle.std.specs.Prelude.{◌≡◌, ◌++◌, ◌∷◌, [], ◌<◌, ◌/◌, ◌%◌, codes, map, OnOk};
 ghost use Rattle.std.specs.String.{string_bytes};
 ghost use Rattle.std.specs.List.{flat_map};
-ghost use Rattle.event_log.specs.Text.{escaped, escaped_by, hex_digit, quoted};
+ghost use Rattle.event_log.specs.Text.{escaped, escaped_by, hex_digit, joined, piece_text, quoted};
 
 use std::alloc::AllocError;
+use std::net::SocketAddrV4;
+
+/// A piece of a line.
+#[derive(Clone, Copy)]
+pub(crate) enum Piece<'a> {
+    Text(&'a str),
+    Number(u64),
+    Hex(u64),
+    Address(SocketAddrV4),
+    /// A name that an initiator or a path chose: it is quoted and escaped.
+    Name(&'a [u8]),
+}
 
 // A digit of a byte that is escaped.
 fn hex_digit_of(d: u8) -> char
@@ -54,11 +66,33 @@ pub fn escape(line: &mut String, name: &[u8]) -> Result<(), AllocError>
     escape_by(line, "\\x", name)
 }
 
-/// Puts a name that an initiator or a path chose behind what a line has, between quotes.
-pub(crate) fn quote(line: &mut String, name: &[u8]) -> Result<(), AllocError>
+// A name between quotes.
+fn name(line: &mut String, name: &[u8]) -> Result<(), AllocError>
     ensures { OnOk result (string_bytes line.new ≡ string_bytes line.old ++ quoted name.now) }
 {
     line.push('"')?;
     escape(line, name)?;
     line.push('"')
+}
+
+fn put_one(line: &mut String, piece: &Piece<'_>) -> Result<(), AllocError>
+    ensures { OnOk result (string_bytes line.new ≡ string_bytes line.old ++ piece_text piece.now) }
+{
+    match piece {
+        Piece::Text(text) => line.push_str(text),
+        Piece::Number(n) => write!(line, "{n}"),
+        Piece::Hex(n) => write!(line, "{n:x}"),
+        Piece::Address(a) => write!(line, "{a}"),
+        Piece::Name(chosen) => name(line, chosen),
+    }
+}
+
+/// Puts pieces behind what a line has.
+pub(crate) fn put(line: &mut String, pieces: &[Piece<'_>]) -> Result<(), AllocError>
+    ensures { OnOk result (string_bytes line.new ≡ joined (string_bytes line.old) (map piece_text pieces.now)) }
+{
+    for piece in pieces {
+        put_one(line, piece)?;
+    }
+    Ok(())
 }

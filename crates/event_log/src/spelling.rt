@@ -1,19 +1,18 @@
 //! How an event is spelled.
-ghost use Rattle.std.specs.Prelude.{◌≡◌, ◌∷◌, [], codes, OnOk};
+ghost use Rattle.std.specs.Prelude.{◌≡◌, ◌∷◌, [], OnOk};
 ghost use Rattle.std.specs.Fmt.{decimal};
 ghost use Rattle.std.specs.String.{string_bytes};
-ghost use Rattle.event_log.specs.Text.{by_in, cause_in, command_in, error_in, failed_in, file_in, hex, initiator_in, joined, parts, path_in};
-ghost use Rattle.event_log.specs.Text.{portal_in, quoted, sense_in, session_in, set_in, stay_in, unusable_in, why_in};
-ghost use Rattle.event_log.specs.Words.{session_type_text};
-ghost use Rattle.event_log.specs.Words.status_text as status_words;
+ghost use Rattle.event_log.specs.Text.{by_in, cause_in, command_in, error_in, failed_in, file_in, initiator_in, joined, parts, path_in};
+ghost use Rattle.event_log.specs.Text.{portal_in, sense_in, session_in, set_in, stay_in, unusable_in, why_in};
 ghost use Rattle.event_log.specs.declared.event.Event.TheVariants as events;
 ghost use Rattle.event_log.specs.declared.words.Why.TheVariants as whys;
 
 use crate::event::{By, Event, Initiator, Path, Place, Reservation};
-use crate::line::quote;
+use crate::line::Piece::{Address, Hex, Name, Number, Text};
+use crate::line::put;
 use crate::words::{
-    Access, Call, Cause, Operation, Part, Resource, Sense, SessionType, Stayed, Unusable, Why,
-    error_text, reject_text, status_text,
+    Access, Call, Cause, Operation, Part, Sense, SessionType, Stayed, Unusable, Why, error_text,
+    reject_text, status_text,
 };
 use std::alloc::AllocError;
 use std::net::SocketAddrV4;
@@ -22,31 +21,36 @@ use std::net::SocketAddrV4;
 fn counted(line: &mut String, what: &str, n: u64) -> Result<(), AllocError>
     ensures { OnOk result (string_bytes line.new ≡ joined (string_bytes line.old) (what.now ∷ decimal n ∷ [])) }
 {
-    write!(line, "{what}{n}")
-}
-
-// A word, and a name behind it.
-fn named(line: &mut String, what: &str, name: &[u8]) -> Result<(), AllocError>
-    ensures { OnOk result (string_bytes line.new ≡ joined (string_bytes line.old) (what.now ∷ quoted name.now ∷ [])) }
-{
-    line.push_str(what)?;
-    quote(line, name)
+    put(line, &[Text(what), Number(n)])
 }
 
 fn initiator(line: &mut String, who: &Initiator<'_>) -> Result<(), AllocError>
     ensures { OnOk result (string_bytes line.new ≡ joined (string_bytes line.old) (initiator_in who.now [])) }
 {
-    named(line, " initiator=", who.name)?;
-    write!(line, " isid=0x{:x}", who.isid)
+    put(
+        line,
+        &[
+            Text(" initiator="),
+            Name(who.name),
+            Text(" isid=0x"),
+            Hex(who.isid),
+        ],
+    )
 }
 
 fn path(line: &mut String, path: &Path) -> Result<(), AllocError>
     ensures { OnOk result (string_bytes line.new ≡ joined (string_bytes line.old) (path_in path.now [])) }
 {
-    write!(
+    put(
         line,
-        " from={} portal={} tag={}",
-        path.from, path.portal, path.tag
+        &[
+            Text(" from="),
+            Address(path.from),
+            Text(" portal="),
+            Address(path.portal),
+            Text(" tag="),
+            Number(u64::from(path.tag)),
+        ],
     )
 }
 
@@ -88,10 +92,18 @@ fn rejected(line: &mut String, reason: u8, opcode: u8, task: u32) -> Result<(), 
     ensures { OnOk result (string_bytes line.new
         ≡ joined (string_bytes line.old) (why_in (whys.Rejected reason opcode task))) }
 {
-    let words = reject_text(reason);
-    write!(
+    put(
         line,
-        " why=protocol_error reason=0x{reason:x} words=\"{words}\" opcode=0x{opcode:x} task=0x{task:x}"
+        &[
+            Text(" why=protocol_error reason=0x"),
+            Hex(u64::from(reason)),
+            Text(" words=\""),
+            Text(reject_text(reason)),
+            Text("\" opcode=0x"),
+            Hex(u64::from(opcode)),
+            Text(" task=0x"),
+            Hex(u64::from(task)),
+        ],
     )
 }
 
@@ -128,15 +140,31 @@ fn portal(
     ensures { OnOk result (string_bytes line.new
         ≡ joined (string_bytes line.old) (what.now ∷ portal_in controller portal [])) }
 {
-    write!(line, "{what} controller={controller} portal={portal}")
+    put(
+        line,
+        &[
+            Text(what),
+            Text(" controller="),
+            Number(u64::from(controller)),
+            Text(" portal="),
+            Address(portal),
+        ],
+    )
 }
 
 // An error of the system.
 fn error(line: &mut String, error: u32) -> Result<(), AllocError>
     ensures { OnOk result (string_bytes line.new ≡ joined (string_bytes line.old) (error_in error)) }
 {
-    let name = error_text(error);
-    write!(line, " errno={error} error={name}")
+    put(
+        line,
+        &[
+            Text(" errno="),
+            Number(u64::from(error)),
+            Text(" error="),
+            Text(error_text(error)),
+        ],
+    )
 }
 
 // What happened to a command of a session at a unit.
@@ -144,14 +172,93 @@ fn command(line: &mut String, what: &str, unit: u8, operation: Operation) -> Res
     ensures { OnOk result (string_bytes line.new
         ≡ joined (string_bytes line.old) (what.now ∷ command_in unit operation [])) }
 {
-    write!(line, "{what} unit={unit} command={}", operation.text())
+    put(
+        line,
+        &[
+            Text(what),
+            Text(" unit="),
+            Number(u64::from(unit)),
+            Text(" command="),
+            Text(operation.text()),
+        ],
+    )
 }
 
 // What happened to a file of a unit.
 fn file(line: &mut String, what: &str, unit: u8, part: Part) -> Result<(), AllocError>
     ensures { OnOk result (string_bytes line.new ≡ joined (string_bytes line.old) (what.now ∷ file_in unit part [])) }
 {
-    write!(line, "{what} unit={unit} file={}", part.text())
+    put(
+        line,
+        &[
+            Text(what),
+            Text(" unit="),
+            Number(u64::from(unit)),
+            Text(" file="),
+            Text(part.text()),
+        ],
+    )
+}
+
+fn logged_in(
+    line: &mut String,
+    who: &Initiator<'_>,
+    by: &Path,
+    tsih: u16,
+    kind: SessionType,
+) -> Result<(), AllocError>
+    ensures { OnOk result (string_bytes line.new
+        ≡ joined (string_bytes line.old) (parts (events.LoggedIn who.now by.now tsih kind))) }
+{
+    came(line, "event=login", who, by)?;
+    put(
+        line,
+        &[
+            Text(" tsih="),
+            Number(u64::from(tsih)),
+            Text(" type="),
+            Text(kind.text()),
+        ],
+    )
+}
+
+fn refused(
+    line: &mut String,
+    who: &Initiator<'_>,
+    by: &Path,
+    status: u16,
+    lacks: Cause,
+) -> Result<(), AllocError>
+    ensures { OnOk result (string_bytes line.new
+        ≡ joined (string_bytes line.old) (parts (events.LoginRefused who.now by.now status lacks))) }
+{
+    came(line, "event=login_refused", who, by)?;
+    put(
+        line,
+        &[
+            Text(" status=0x"),
+            Hex(u64::from(status)),
+            Text(" words=\""),
+            Text(status_text(status)),
+            Text("\""),
+        ],
+    )?;
+    cause(line, lacks)
+}
+
+fn session_ended(
+    line: &mut String,
+    who: &Initiator<'_>,
+    by: &Path,
+    tsih: u16,
+    end: Why,
+) -> Result<(), AllocError>
+    ensures { OnOk result (string_bytes line.new
+        ≡ joined (string_bytes line.old) (parts (events.SessionEnded who.now by.now tsih end))) }
+{
+    came(line, "event=session_ended", who, by)?;
+    counted(line, " tsih=", u64::from(tsih))?;
+    why(line, end)
 }
 
 // That the groups of a unit were set.
@@ -165,10 +272,18 @@ fn set(
     ensures { OnOk result (string_bytes line.new
         ≡ joined (string_bytes line.old) (set_in unit group first second [])) }
 {
-    let (first, second) = (first.text(), second.text());
-    write!(
+    put(
         line,
-        "event=groups_set unit={unit} owner={group} states={first},{second}"
+        &[
+            Text("event=groups_set unit="),
+            Number(u64::from(unit)),
+            Text(" owner="),
+            Number(u64::from(group)),
+            Text(" states="),
+            Text(first.text()),
+            Text(","),
+            Text(second.text()),
+        ],
     )
 }
 
@@ -176,10 +291,16 @@ fn set(
 fn stay(line: &mut String, unit: u8, group: u16, end: Stayed) -> Result<(), AllocError>
     ensures { OnOk result (string_bytes line.new ≡ joined (string_bytes line.old) (stay_in unit group end [])) }
 {
-    write!(
+    put(
         line,
-        "event=not_moved unit={unit} to={group} why={}",
-        end.text()
+        &[
+            Text("event=not_moved unit="),
+            Number(u64::from(unit)),
+            Text(" to="),
+            Number(u64::from(group)),
+            Text(" why="),
+            Text(end.text()),
+        ],
     )
 }
 
@@ -193,15 +314,20 @@ fn reserved(
     ensures { OnOk result (string_bytes line.new
         ≡ joined (string_bytes line.old) (parts (events.Reserved unit asked.now who.now group))) }
 {
-    let (action, key, kind) = (asked.action.text(), asked.key, asked.kind);
-    write!(
+    put(
         line,
-        "event=reservation unit={unit} action={action} key=0x{key:x}"
-    )?;
-    write!(
-        line,
-        " service_action_key=0x{:x} type={kind}",
-        asked.service_action_key
+        &[
+            Text("event=reservation unit="),
+            Number(u64::from(unit)),
+            Text(" action="),
+            Text(asked.action.text()),
+            Text(" key=0x"),
+            Hex(asked.key),
+            Text(" service_action_key=0x"),
+            Hex(asked.service_action_key),
+            Text(" type="),
+            Number(u64::from(asked.kind)),
+        ],
     )?;
     session(line, who, group)
 }
@@ -209,22 +335,32 @@ fn reserved(
 fn sense(line: &mut String, sense: Sense) -> Result<(), AllocError>
     ensures { OnOk result (string_bytes line.new ≡ joined (string_bytes line.old) (sense_in sense [])) }
 {
-    write!(
+    put(
         line,
-        " key=0x{:x} asc=0x{:x} ascq=0x{:x}",
-        sense.key, sense.code, sense.qualifier
+        &[
+            Text(" key=0x"),
+            Hex(u64::from(sense.key)),
+            Text(" asc=0x"),
+            Hex(u64::from(sense.code)),
+            Text(" ascq=0x"),
+            Hex(u64::from(sense.qualifier)),
+        ],
     )
 }
 
 fn failed(line: &mut String, call: Call, place: Place, errno: u32) -> Result<(), AllocError>
     ensures { OnOk result (string_bytes line.new ≡ joined (string_bytes line.old) (failed_in call place errno)) }
 {
-    write!(
+    put(
         line,
-        " call={} block={} blocks={}",
-        call.text(),
-        place.first,
-        place.count
+        &[
+            Text(" call="),
+            Text(call.text()),
+            Text(" block="),
+            Number(u64::from(place.first)),
+            Text(" blocks="),
+            Number(u64::from(place.count)),
+        ],
     )?;
     error(line, errno)
 }
@@ -234,39 +370,16 @@ fn unusable(line: &mut String, disk: &[u8], cause: Unusable, errno: u32) -> Resu
     ensures { OnOk result (string_bytes line.new
         ≡ joined (string_bytes line.old) (unusable_in disk.now cause errno)) }
 {
-    named(line, " disk=", disk)?;
-    write!(line, " why={}", cause.text())?;
+    put(
+        line,
+        &[
+            Text(" disk="),
+            Name(disk),
+            Text(" why="),
+            Text(cause.text()),
+        ],
+    )?;
     error(line, errno)
-}
-
-// What a login came to: the session's TSIH, and what it is for.
-fn login(line: &mut String, tsih: u16, kind: SessionType) -> Result<(), AllocError>
-    ensures { OnOk result (string_bytes line.new ≡ joined (string_bytes line.old)
-        (codes " tsih=" ∷ decimal tsih ∷ codes " type=" ∷ session_type_text kind ∷ [])) }
-{
-    write!(line, " tsih={tsih} type={}", kind.text())
-}
-
-// The status of a login that was refused.
-fn refusal(line: &mut String, status: u16) -> Result<(), AllocError>
-    ensures { OnOk result (string_bytes line.new ≡ joined (string_bytes line.old)
-        (codes " status=0x" ∷ hex status ∷ codes " words=\"" ∷ status_words status ∷ codes "\"" ∷ [])) }
-{
-    let words = status_text(status);
-    write!(line, " status=0x{status:x} words=\"{words}\"")
-}
-
-fn no_keepalive(line: &mut String, from: SocketAddrV4) -> Result<(), AllocError>
-    ensures { OnOk result (string_bytes line.new
-        ≡ joined (string_bytes line.old) (parts (events.NoKeepalive from))) }
-{
-    write!(line, "event=no_keepalive from={from}")
-}
-
-fn wanting(line: &mut String, what: Resource) -> Result<(), AllocError>
-    ensures { OnOk result (string_bytes line.new ≡ joined (string_bytes line.old) (parts (events.Wanting what))) }
-{
-    write!(line, "event=wanting what={}", what.text())
 }
 
 fn hung(line: &mut String, unit: u8, part: Part, call: Call) -> Result<(), AllocError>
@@ -274,7 +387,7 @@ fn hung(line: &mut String, unit: u8, part: Part, call: Call) -> Result<(), Alloc
         ≡ joined (string_bytes line.old) (parts (events.Hung unit part call))) }
 {
     file(line, "event=hung", unit, part)?;
-    write!(line, " call={}", call.text())
+    put(line, &[Text(" call="), Text(call.text())])
 }
 
 fn busy(
@@ -296,8 +409,8 @@ pub fn spell(line: &mut String, event: &Event<'_>) -> Result<(), AllocError>
     ensures { OnOk result (string_bytes line.new ≡ joined (string_bytes line.old) (parts event.now)) }
 {
     match event {
-        Event::Started(version) => named(line, "event=started version=", version),
-        Event::WrongWords(what) => named(line, "event=wrong_words what=", what),
+        Event::Started(version) => put(line, &[Text("event=started version="), Name(version)]),
+        Event::WrongWords(what) => put(line, &[Text("event=wrong_words what="), Name(what)]),
         Event::Listening(controller, at) => portal(line, "event=listening", *controller, *at),
         Event::CannotListen(controller, at, errno) => {
             portal(line, "event=cannot_listen", *controller, *at)?;
@@ -309,20 +422,9 @@ pub fn spell(line: &mut String, event: &Event<'_>) -> Result<(), AllocError>
         }
         Event::Ready => line.push_str("event=ready"),
         Event::Stopping => line.push_str("event=stopping"),
-        Event::LoggedIn(who, by, tsih, kind) => {
-            came(line, "event=login", who, by)?;
-            login(line, *tsih, *kind)
-        }
-        Event::LoginRefused(who, by, status, lacks) => {
-            came(line, "event=login_refused", who, by)?;
-            refusal(line, *status)?;
-            cause(line, *lacks)
-        }
-        Event::SessionEnded(who, by, tsih, end) => {
-            came(line, "event=session_ended", who, by)?;
-            counted(line, " tsih=", u64::from(*tsih))?;
-            why(line, *end)
-        }
+        Event::LoggedIn(who, by, tsih, kind) => logged_in(line, who, by, *tsih, *kind),
+        Event::LoginRefused(who, by, status, lacks) => refused(line, who, by, *status, *lacks),
+        Event::SessionEnded(who, by, tsih, end) => session_ended(line, who, by, *tsih, *end),
         Event::ConnectionEnded(by, end) => {
             line.push_str("event=connection_ended")?;
             path(line, by)?;
@@ -358,8 +460,10 @@ pub fn spell(line: &mut String, event: &Event<'_>) -> Result<(), AllocError>
             file(line, "event=cannot_use", *unit, *part)?;
             unusable(line, disk, *cause, *errno)
         }
-        Event::NoKeepalive(from) => no_keepalive(line, *from),
-        Event::Wanting(what) => wanting(line, *what),
+        Event::NoKeepalive(from) => {
+            put(line, &[Text("event=no_keepalive from="), Address(*from)])
+        }
+        Event::Wanting(what) => put(line, &[Text("event=wanting what="), Text(what.text())]),
         Event::Dropped(count) => counted(line, "event=dropped lines=", *count),
     }
 }
