@@ -170,7 +170,7 @@ impl<
 }
 
 /// The lines of its console, and those who come, with their sessions open.
-pub fn lines<'a, R>(
+pub fn console_lines<'a, R>(
     rt: &'a R,
     alloc: Global,
     visited: &'a Visited<'a>,

@@ -5,7 +5,7 @@ use crate::ends::must;
 use crate::host::Host;
 use crate::hosts::perform;
 use crate::site::{Site, free_site, make};
-use crate::visits::{Visited, lines};
+use crate::visits::{Visited, console_lines};
 use array::{open, serve};
 use event_log::Log;
 use std::alloc::Global;
@@ -216,7 +216,7 @@ fn units_have_their_files_and_portals_their_groups(rt: HostRuntime) -> Result<()
         let options = visited.site.options(alloc)?;
         let mut hosts = Vec::new(alloc);
         let mut said = Vec::new(alloc);
-        let reader = BufReader::new(alloc, lines(&rt, alloc, &visited, &mut hosts))?;
+        let reader = BufReader::new(alloc, console_lines(&rt, alloc, &visited, &mut hosts))?;
         let log = Log::off();
         let Ok(array) = open(&rt, alloc, &log, &options) else {
             return Err("an array that is opened".into());
