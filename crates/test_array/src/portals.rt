@@ -1,6 +1,5 @@
 //! Tests of the portals over the loopback: an array, its portals and its initiators in threads of one process. Each test is a
 //! script of what the initiators do and are answered.
-mod ahead;
 pub mod at;
 mod behind;
 mod beside;
