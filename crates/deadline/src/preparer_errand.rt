@@ -219,8 +219,8 @@ impl<R: Wait + Clock + Drop, P: Preparer> PreparerRunner<R, P> {
         }
     }
 
-    // Reads blocks that are wanted soon. False: they are not read.
-    fn read_ahead(&self, hint: Hint) -> bool {
+    // Reads blocks that are wanted soon, and looks how long that takes, where it is asked to. False: they are not read.
+    fn read_ahead(&self, hint: Hint, is_looked_at: bool) -> bool {
         let Some((place, bytes)) = self.ahead.begin(BLOCK_LENGTH * usize::from(hint.blocks)) else {
             return false;
         };
@@ -230,7 +230,7 @@ impl<R: Wait + Clock + Drop, P: Preparer> PreparerRunner<R, P> {
             first: hint.first,
             writes,
         };
-        match self.preparer.read(hint.first, bytes, false) {
+        match self.preparer.read(hint.first, bytes, is_looked_at) {
             Some(memory) => {
                 self.ahead.end(place, hint.first, behind(memory, beside));
                 true
@@ -239,21 +239,25 @@ impl<R: Wait + Clock + Drop, P: Preparer> PreparerRunner<R, P> {
         }
     }
 
-    // Reads ahead. What is too much for one answer goes along with what is asked next.
+    // Reads ahead. What is too much for one answer goes along with what is asked next. The first run is looked at: while the disk counts
+    // as fast it is told of nothing, so each run takes the time of a disk that is slow, and whoever takes what comes from here never looks.
     fn read_on(&self) {
         let mut room = MOST_AHEAD;
+        let mut is_first = true;
         for hint in &self.hints {
-            let length = BLOCK_LENGTH * usize::from(hint.blocks);
             if !self.is_next(*hint) {
                 continue;
             }
-            let (may_read, is_much) = (self.ahead.may_read_now(length), length > room);
+            let length = BLOCK_LENGTH * usize::from(hint.blocks);
+            let (may_read, fits) = (self.ahead.may_read_now(length), length <= room);
             room = room.saturating_sub(length);
-            if may_read && is_much {
-                self.ahead.keep(&self.rt, *hint);
+            if may_read && fits && self.has_time() && self.read_ahead(*hint, is_first) {
+                is_first = false;
+                continue;
             }
-            if !may_read || is_much || !self.has_time() || !self.read_ahead(*hint) {
-                self.ahead.stays_away(hint.first);
+            self.ahead.stays_away(hint.first);
+            if may_read && !fits {
+                self.ahead.keep(&self.rt, *hint);
             }
         }
     }

@@ -1,4 +1,5 @@
 //! Tests over real files, in a folder of their own each.
+mod ahead;
 mod beside;
 mod calls;
 pub mod fake;
