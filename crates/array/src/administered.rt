@@ -1,8 +1,8 @@
-//! An array that is served, as the window and the control socket ask it.
+//! What the window and the control socket ask of an array that is served, as its server answers it.
 
-use crate::lines::say_status;
 use crate::operated::{Operated, row_at};
 use crate::registrations::registrations;
+use array_administration::{Administered, say_status};
 use block_file::{Blocks, Opener};
 use event_log::Log;
 use portal::{Controllers, Server};
@@ -11,38 +11,11 @@ use status::Row;
 use std::alloc::Global;
 use std::io::{self, Write};
 use std::net::SocketAddrV4;
-use std::sync::Wait;
+use std::sync::{Arc, Wait};
 use std::time::Clock;
 use unit_history::Opened;
 use unit_sequence::Namings;
 use window::Registration;
-
-/// What is asked of an array that is served: by this trait who asks has one type for all that it is made of.
-pub(crate) trait Administered {
-    /// What happens is told to it.
-    fn log(&self) -> &Log;
-
-    /// Where the portals of a controller listen.
-    fn portals(&self, controller: Group) -> &[SocketAddrV4];
-
-    /// How many units there are.
-    fn count(&self) -> usize;
-
-    /// The row of the unit at a place, where there is one.
-    fn row<R: Wait>(&self, rt: &R, place: usize) -> Option<Row>;
-
-    /// The registrations of the unit at a place. None: a command has the unit for long, or there was no memory.
-    fn registrations(&self, alloc: Global, place: usize) -> Option<Vec<Registration>>;
-
-    /// Writes a line for each unit.
-    fn say_status<R: Wait + Clock, W: Write>(&self, rt: &R, writer: &mut W) -> io::Result<()>;
-
-    /// Brings a controller up. The first unit that does not move is told.
-    fn up<R: Wait + Clock>(&self, rt: &R, controller: Group) -> Result<(), usize>;
-
-    /// Ends the connection of the session with this TSIH, where one lives: whether one does.
-    fn shut<R: Wait>(&self, rt: &R, tsih: u16) -> bool;
-}
 
 // As its console sees it.
 fn operated<'a, R: Wait + Clock, B: Blocks, F: Blocks, O: Opener<B>, N: Namings<Opened>, G: Drop>(
@@ -56,40 +29,52 @@ fn operated<'a, R: Wait + Clock, B: Blocks, F: Blocks, O: Opener<B>, N: Namings<
     }
 }
 
+/// The server of an array, as what administers it asks. Several threads share it.
+#[derive(Drop)]
+pub(crate) struct AdministeredServer<
+    B: Blocks,
+    F: Blocks,
+    O: Opener<B>,
+    N: Namings<Opened>,
+    G: Drop,
+> {
+    pub(crate) server: Arc<Server<Controllers<B, F, O, N>, G>, Global>,
+}
+
 impl<B: Blocks, F: Blocks, O: Opener<B>, N: Namings<Opened>, G: Drop> Administered
-    for Server<Controllers<B, F, O, N>, G> {
+    for AdministeredServer<B, F, O, N, G> {
     fn log(&self) -> &Log {
-        &self.log
+        &self.server.log
     }
 
     fn portals(&self, controller: Group) -> &[SocketAddrV4] {
         match controller {
-            Group::One => &self.first,
-            Group::Two => &self.second,
+            Group::One => &self.server.first,
+            Group::Two => &self.server.second,
         }
     }
 
     fn count(&self) -> usize {
-        self.device.units.units().count()
+        self.server.device.units.units().count()
     }
 
     fn row<R: Wait>(&self, rt: &R, place: usize) -> Option<Row> {
-        row_at(rt, self.device.units.units(), place)
+        row_at(rt, self.server.device.units.units(), place)
     }
 
     fn registrations(&self, alloc: Global, place: usize) -> Option<Vec<Registration>> {
-        registrations(alloc, self.device.units.units(), place)
+        registrations(alloc, self.server.device.units.units(), place)
     }
 
     fn say_status<R: Wait + Clock, W: Write>(&self, rt: &R, writer: &mut W) -> io::Result<()> {
-        say_status(writer, &mut operated(rt, self))
+        say_status(writer, &mut operated(rt, &self.server))
     }
 
     fn up<R: Wait + Clock>(&self, rt: &R, controller: Group) -> Result<(), usize> {
-        operated(rt, self).up(controller)
+        operated(rt, &self.server).up(controller)
     }
 
     fn shut<R: Wait>(&self, rt: &R, tsih: u16) -> bool {
-        self.device.sessions.lock(rt).shut(tsih)
+        self.server.device.sessions.lock(rt).shut(tsih)
     }
 }

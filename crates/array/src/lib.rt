@@ -2,20 +2,15 @@
 #![tactic(auto)]
 
 mod administered;
-mod administration;
-mod collector;
-mod control;
 mod disks;
-mod lines;
 mod operated;
 mod portals;
 mod registrations;
 mod served;
 mod timed;
 
-pub use administration::Administration;
+pub use array_administration::{Administration, Operations, console};
 pub use disks::{FileArray, OpenArray, open};
-pub use lines::{Operations, console};
 pub use operated::Operated;
 pub use served::{serve, tell_want};
 pub use timed::{FileParts, Parts, open_files, serve_timed};

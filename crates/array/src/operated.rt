@@ -1,5 +1,5 @@
 //! The array as its console sees it.
-use crate::lines::Operations;
+use array_administration::Operations;
 use array_units::Units;
 use block_file::{Blocks, Opener};
 use command_line::MAX_UNITS;

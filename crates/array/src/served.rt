@@ -6,12 +6,13 @@ ghost use Rattle.portal.specs.Lanes.{AreLanesOf};
 ghost use Rattle.scsi_types.specs.declared.names.Group.TheVariants.{One, Two};
 ghost use Rattle.unit_history.specs.Naming.{IsNamed};
 
-use crate::administration::{Administration, Sockets, answer, control_path, open};
-use crate::control;
+use crate::administered::AdministeredServer;
 use crate::disks::OpenArray;
-use crate::lines::{Operations, console};
 use crate::operated::Operated;
 use crate::portals::{self, Portal, Ports};
+use array_administration::{
+    Administration, Operations, Sockets, answer, console, control_path, open,
+};
 use array_units::Units;
 use block_file::{Blocks, Opener};
 use command_line::{Fault, MAX_UNITS, Options};
@@ -157,7 +158,11 @@ impl<
         let mut stacks = SmallStacks;
         let first = start_lanes(rt, alloc, &self.server, Group::One, &mut stacks)?;
         let second = start_lanes(rt, alloc, &self.server, Group::Two, &mut stacks)?;
-        answer(rt, alloc, options, &self.server, sockets)?;
+        let server = Arc::try_clone(&self.server)?;
+        let Ok(administered) = Arc::new(alloc, AdministeredServer { server }) else {
+            return Err(Fault::NoMemory);
+        };
+        answer(rt, alloc, options, &administered, sockets)?;
         self.accept_at(portals, &(first, second))
     }
 
@@ -268,7 +273,7 @@ pub fn serve<
             if let Err(fault) = &ended {
                 tell_want(rt, log, *fault);
             }
-            control::remove(rt, path);
+            array_administration::remove(rt, path);
             ended
         }
         Err(fault) => Err(fault),

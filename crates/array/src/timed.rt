@@ -2,10 +2,10 @@
 ghost use Rattle.std.specs.Prelude.{◌≡◌, ◌<◌, ◌≤◌, IfOk, length, map};
 ghost use Rattle.unit_state.specs.Serials.{IsOpening};
 
-use crate::administration::Administration;
 use crate::disks::{OpenArray, fault_of, open_blocks, open_preparer, open_record, place_of};
 use crate::served::{serve, tell_want};
 use aptpl_file::RegFile;
+use array_administration::Administration;
 use block_file::{Blocks, KeepOpener, Opener};
 use command_line::{Fault, MAX_UNITS, Options};
 use deadline::{Deadlined, DeadlinedOpener, DeadlinedPreparer, Watch};

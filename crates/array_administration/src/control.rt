@@ -259,7 +259,7 @@ pub(crate) fn listen<R: Files<File = File> + Net + Clock>(
 }
 
 /// Removes the control socket at this path, where there is one.
-pub(crate) fn remove(rt: &impl Files, path: Option<&str>) {
+pub fn remove(rt: &impl Files, path: Option<&str>) {
     if let Some(path) = path {
         let _ = fs::remove_file(rt, path);
     }

@@ -41,7 +41,7 @@ pub trait Operations {
 }
 
 /// Writes a line for each unit.
-pub(crate) fn say_status<W: Write, A: Operations>(writer: &mut W, array: &mut A) -> io::Result<()> {
+pub fn say_status<W: Write, A: Operations>(writer: &mut W, array: &mut A) -> io::Result<()> {
     for unit in 0..=u8::MAX {
         let Some(row) = array.status(unit) else {
             break;

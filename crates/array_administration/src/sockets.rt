@@ -1,4 +1,4 @@
-//! What administrators reach the array by, beside its console: the window and the control socket.
+//! The sockets by which administrators reach the array, beside its console: that of the window and the control socket.
 
 use crate::administered::Administered;
 use crate::collector::ArrayCollector;
@@ -28,14 +28,14 @@ pub struct Administration<'a> {
 
 /// The sockets of both, where they are to be, and the version that they tell.
 #[derive(Drop)]
-pub(crate) struct Sockets {
-    pub(crate) version: &'static str,
-    pub(crate) http: Option<TcpListener>,
-    pub(crate) control: Option<UnixListener>,
+pub struct Sockets {
+    pub version: &'static str,
+    pub http: Option<TcpListener>,
+    pub control: Option<UnixListener>,
 }
 
 /// The path of the control socket, where there is to be one.
-pub(crate) fn control_path<'a>(administration: &Option<Administration<'a>>) -> Option<&'a str> {
+pub fn control_path<'a>(administration: &Option<Administration<'a>>) -> Option<&'a str> {
     match administration {
         Some(administration) => administration.control,
         None => None,
@@ -43,7 +43,7 @@ pub(crate) fn control_path<'a>(administration: &Option<Administration<'a>>) -> O
 }
 
 /// The sockets that are to be: none, where there is no administration. The log is told why there is none that is to be.
-pub(crate) fn open<R: Files<File = File> + Net + Clock>(
+pub fn open<R: Files<File = File> + Net + Clock>(
     rt: &R,
     log: &Log,
     administration: Option<Administration<'_>>,
@@ -74,7 +74,7 @@ pub(crate) fn open<R: Files<File = File> + Net + Clock>(
 }
 
 /// Answers at both sockets, by threads of their own, for an array that is served.
-pub(crate) fn answer<
+pub fn answer<
     R: Threads + Wait + Clock + RandomSource + Clone + Drop + Send + Sync + 'static,
     A: Administered + Drop + Send + Sync + 'static,
 >(
