@@ -1,6 +1,6 @@
 //! What is measured, in lines.
 
-use crate::headings::{Heading, OF_ARRAY, OF_ROUTES, OF_UNITS, OfArray, OfPath, OfUnit};
+use crate::headings::{Metric, OF_ARRAY, OF_ROUTES, OF_UNITS, OfArray, OfPath, OfUnit};
 use crate::line::Amount::{Count, Micros};
 use crate::line::{Amount, Label, put_help, put_sample, put_type};
 use crate::view::{ArrayView, Commands, Controller, NamedCount, PathView, SessionView, UnitView};
@@ -18,12 +18,10 @@ const BLOCK: u64 = 512;
 /// The sense key of a COMPARE AND WRITE that found a difference (SPC-4, table 43).
 const MISCOMPARE: usize = 14;
 
-// A metric begins: what it tells, and its type. Returns its name.
-fn begin(text: &mut String, heading: Heading) -> Result<&'static str, AllocError> {
-    let (name, kind, words) = heading;
+// A metric begins: what it tells, and its type.
+fn begin(text: &mut String, name: &str, kind: &str, words: &str) -> Result<(), AllocError> {
     put_help(text, name, words)?;
-    put_type(text, name, kind)?;
-    Ok(name)
+    put_type(text, name, kind)
 }
 
 fn put(
@@ -85,8 +83,13 @@ fn of_sessions(text: &mut String, name: &str, sessions: &[SessionView]) -> Resul
 }
 
 // A metric of the array.
-fn of_array(text: &mut String, view: &ArrayView, what: OfArray) -> Result<(), AllocError> {
-    let name = begin(text, what.heading())?;
+fn of_array(
+    text: &mut String,
+    view: &ArrayView,
+    metric: Metric<OfArray>,
+) -> Result<(), AllocError> {
+    let (what, name, kind, words) = metric;
+    begin(text, name, kind, words)?;
     match what {
         OfArray::Build => build(text, name, view),
         OfArray::Start => put(text, name, &[], Count(view.since)),
@@ -181,8 +184,13 @@ fn of_unit(text: &mut String, name: &str, unit: &UnitView, what: OfUnit) -> Resu
 }
 
 // A metric of each unit.
-fn of_units(text: &mut String, units: &[UnitView], what: OfUnit) -> Result<(), AllocError> {
-    let name = begin(text, what.heading())?;
+fn of_units(
+    text: &mut String,
+    units: &[UnitView],
+    metric: Metric<OfUnit>,
+) -> Result<(), AllocError> {
+    let (what, name, kind, words) = metric;
+    begin(text, name, kind, words)?;
     for unit in units {
         of_unit(text, name, unit, what)?;
     }
@@ -360,8 +368,13 @@ fn of_paths(
 }
 
 // A metric of each unit by each controller.
-fn of_all_paths(text: &mut String, units: &[UnitView], what: OfPath) -> Result<(), AllocError> {
-    let name = begin(text, what.heading())?;
+fn of_all_paths(
+    text: &mut String,
+    units: &[UnitView],
+    metric: Metric<OfPath>,
+) -> Result<(), AllocError> {
+    let (what, name, kind, words) = metric;
+    begin(text, name, kind, words)?;
     for unit in units {
         of_paths(text, name, unit, what)?;
     }
@@ -370,23 +383,23 @@ fn of_all_paths(text: &mut String, units: &[UnitView], what: OfPath) -> Result<(
 
 // All metrics of units, and all of units by controllers.
 fn all_of_units(text: &mut String, units: &[UnitView]) -> Result<(), AllocError> {
-    for what in &OF_UNITS {
-        of_units(text, units, *what)?;
+    for metric in &OF_UNITS {
+        of_units(text, units, *metric)?;
     }
     Ok(())
 }
 
 fn all_of_paths(text: &mut String, units: &[UnitView]) -> Result<(), AllocError> {
-    for what in &OF_ROUTES {
-        of_all_paths(text, units, *what)?;
+    for metric in &OF_ROUTES {
+        of_all_paths(text, units, *metric)?;
     }
     Ok(())
 }
 
 // Everything.
 fn all(text: &mut String, view: &ArrayView) -> Result<(), AllocError> {
-    for what in &OF_ARRAY {
-        of_array(text, view, *what)?;
+    for metric in &OF_ARRAY {
+        of_array(text, view, *metric)?;
     }
     all_of_units(text, &view.units)?;
     all_of_paths(text, &view.units)

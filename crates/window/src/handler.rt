@@ -103,6 +103,20 @@ fn tell_health(alloc: Global, view: &ArrayView, response: &mut Response) -> Resu
     fill(response, HeaderValue::from_static(PLAIN), text.into_bytes())
 }
 
+// One of these.
+fn tell_seen(
+    alloc: Global,
+    view: &ArrayView,
+    seen: Seen,
+    response: &mut Response,
+) -> Result<(), AllocError> {
+    match seen {
+        Seen::Metrics => tell_metrics(alloc, view, response),
+        Seen::Status => tell_status(alloc, view, response),
+        Seen::Health => tell_health(alloc, view, response),
+    }
+}
+
 // The page.
 fn tell_page(response: &mut Response) -> Result<(), AllocError> {
     add!(response, header::CONTENT_TYPE, HTML)?;
@@ -129,11 +143,7 @@ impl<'a, S: Collector> Handler<'a, S> {
     // Answers by what is seen now.
     fn show(&self, seen: Seen, response: &mut Response) -> Result<(), AllocError> {
         let view = self.collector.collect(self.alloc)?;
-        match seen {
-            Seen::Metrics => tell_metrics(self.alloc, &view, response),
-            Seen::Status => tell_status(self.alloc, &view, response),
-            Seen::Health => tell_health(self.alloc, &view, response),
-        }
+        tell_seen(self.alloc, &view, seen, response)
     }
 
     // Answers what is asked.

@@ -1,7 +1,9 @@
 //! What is counted, made into what is seen.
 
 use crate::view::{Commands, NamedCount, PathView, SessionView, state_words};
-use event_log::{CALLS_IN_ORDER, CAUSES_IN_ORDER, Counts, IN_ORDER, SessionSeen, escape};
+use event_log::{
+    CALLS_IN_ORDER, CAUSES_IN_ORDER, Call, Counts, IN_ORDER, Operation, SessionSeen, Visit, escape,
+};
 use std::alloc::{AllocError, Global};
 
 /// A name as the log spells it.
@@ -11,40 +13,35 @@ pub fn spelled(alloc: Global, name: &[u8]) -> Result<String, AllocError> {
     Ok(text)
 }
 
-// Operations, and how often each was counted.
-fn operations(alloc: Global, counts: &[u64]) -> Result<Vec<NamedCount>, AllocError> {
+/// Names, and how often what has each was counted.
+pub(crate) fn tallies(
+    alloc: Global,
+    names: &[&'static str],
+    counts: &[u64],
+) -> Result<Vec<NamedCount>, AllocError> {
     let mut tallies = Vec::new(alloc);
-    for (operation, count) in IN_ORDER.iter().zip(counts) {
+    for (what, count) in names.iter().zip(counts) {
         tallies.push(NamedCount {
-            what: operation.text(),
+            what: *what,
             count: *count,
         })?;
     }
     Ok(tallies)
+}
+
+// Operations, and how often each was counted.
+fn operations(alloc: Global, counts: &[u64]) -> Result<Vec<NamedCount>, AllocError> {
+    tallies(alloc, &IN_ORDER.map(Operation::text), counts)
 }
 
 /// Calls of the system that failed, and how often each did.
 pub fn failures(alloc: Global, counts: &[u64]) -> Result<Vec<NamedCount>, AllocError> {
-    let mut tallies = Vec::new(alloc);
-    for (call, count) in CALLS_IN_ORDER.iter().zip(counts) {
-        tallies.push(NamedCount {
-            what: call.text(),
-            count: *count,
-        })?;
-    }
-    Ok(tallies)
+    tallies(alloc, &CALLS_IN_ORDER.map(Call::text), counts)
 }
 
 /// What was lacking where logins were refused, and how often each was.
 pub fn refusals(alloc: Global, counts: &[u64]) -> Result<Vec<NamedCount>, AllocError> {
-    let mut tallies = Vec::new(alloc);
-    for (cause, count) in CAUSES_IN_ORDER.iter().zip(counts) {
-        tallies.push(NamedCount {
-            what: *cause,
-            count: *count,
-        })?;
-    }
-    Ok(tallies)
+    tallies(alloc, &CAUSES_IN_ORDER, counts)
 }
 
 // What is counted of commands.
@@ -71,10 +68,7 @@ pub fn path(
     state: u64,
     counts: Option<&Counts>,
 ) -> Result<PathView, AllocError> {
-    let commands = match counts {
-        Some(counts) => commands(alloc, counts)?,
-        None => commands(alloc, &Counts::none())?,
-    };
+    let commands = commands(alloc, counts.unwrap_or(&Counts::none()))?;
     Ok(PathView {
         controller,
         state,
@@ -83,21 +77,31 @@ pub fn path(
     })
 }
 
+// Puts the names of a session into what is seen of it.
+fn put_names(view: &mut SessionView, who: &Visit) -> Result<(), AllocError> {
+    let (isid, portal, peer) = (who.isid, who.path.portal, who.path.from);
+    escape(&mut view.initiator, &who.name)?;
+    write!(view.isid, "0x{isid:x}")?;
+    write!(view.portal, "{portal}")?;
+    write!(view.peer, "{peer}")
+}
+
 /// A session.
 pub fn session(alloc: Global, seen: &SessionSeen) -> Result<SessionView, AllocError> {
     let who = &seen.who;
-    let (isid, portal, peer) = (who.isid, who.path.portal, who.path.from);
-    Ok(SessionView {
-        initiator: spelled(alloc, &who.name)?,
-        isid: format!(in alloc; "0x{isid:x}")?,
+    let mut view = SessionView {
+        initiator: String::new(alloc),
+        isid: String::new(alloc),
         tsih: u64::from(who.tsih),
         kind: who.kind.text(),
         controller: u64::from(who.path.tag),
-        portal: format!(in alloc; "{portal}")?,
-        peer: format!(in alloc; "{peer}")?,
+        portal: String::new(alloc),
+        peer: String::new(alloc),
         since: who.since.as_secs(),
         last_command: seen.last.map(|(operation, _)| operation.text()),
         idle_micros: seen.last.map(|(_, idle)| idle),
         commands: seen.commands,
-    })
+    };
+    put_names(&mut view, who)?;
+    Ok(view)
 }

@@ -55,8 +55,8 @@ fn connection(alloc: Global, keys: RandomState) -> Connection {
     Connection::new(alloc, keys, CONFIG)
 }
 
-fn advance<S: Collector>(connection: &mut Connection, handler: &mut Handler<'_, S>) {
-    connection.advance(handler)
+fn advance<S: Collector>(connection: &mut Connection, alloc: Global, collector: &S) {
+    connection.advance(&mut Handler::new(alloc, collector))
 }
 
 fn write_to(connection: &mut Connection, stream: &TcpStream) -> io::Result<usize> {
@@ -67,6 +67,11 @@ fn write_to(connection: &mut Connection, stream: &TcpStream) -> io::Result<usize
 fn read_from(connection: &mut Connection, stream: &TcpStream) -> io::Result<usize> {
     let mut stream = stream;
     connection.read_from(&mut stream)
+}
+
+// Lets a connection go by its buffers: its other parts are dropped, and proved so, where they are declared.
+fn close(connection: Connection) {
+    let _ = connection.into_buffers();
 }
 
 // Sends what is pending, or reads, in the time that is left; false: the connection can take no more.
@@ -83,13 +88,14 @@ fn transfer(connection: &mut Connection, stream: &TcpStream, left: Duration) -> 
 // Answers, until all is said.
 fn converse<R: Clock, S: Collector>(
     rt: &R,
+    alloc: Global,
     connection: &mut Connection,
-    handler: &mut Handler<'_, S>,
+    collector: &S,
     stream: &TcpStream,
     began: Duration,
 ) -> io::Result<()> {
     for _ in 0..u64::MAX {
-        advance(connection, handler);
+        advance(connection, alloc, collector);
         if connection.is_done() || !transfer(connection, stream, left(rt, began, PATIENCE)?)? {
             break;
         }
@@ -112,6 +118,21 @@ fn finish<R: Clock>(rt: &R, stream: &TcpStream) -> io::Result<()> {
     Ok(())
 }
 
+// Answers what comes by a connection that began then.
+fn answer<R: Clock, S: Collector>(
+    rt: &R,
+    alloc: Global,
+    keys: RandomState,
+    collector: &S,
+    stream: &TcpStream,
+    began: Duration,
+) -> io::Result<()> {
+    let mut connection = connection(alloc, keys);
+    let answered = converse(rt, alloc, &mut connection, collector, stream, began);
+    close(connection);
+    answered
+}
+
 // Serves a connection.
 fn attend<R: Clock + RandomSource, S: Collector>(
     rt: &R,
@@ -121,9 +142,7 @@ fn attend<R: Clock + RandomSource, S: Collector>(
 ) -> io::Result<()> {
     let _ = stream.set_nodelay(true);
     let began = rt.monotonic()?;
-    let mut connection = connection(alloc, RandomState::new(rt)?);
-    let mut handler = Handler::new(alloc, collector);
-    converse(rt, &mut connection, &mut handler, stream, began)?;
+    answer(rt, alloc, RandomState::new(rt)?, collector, stream, began)?;
     finish(rt, stream)
 }
 

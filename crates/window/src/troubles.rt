@@ -1,5 +1,6 @@
 //! What is wrong with an array, in sentences.
 
+use crate::made::tallies;
 use crate::view::{ArrayView, NamedCount, UnitView};
 use event_log::{CALLS, Happenings};
 use std::alloc::{AllocError, Global};
@@ -146,14 +147,8 @@ impl Signs {
 
 /// What may be wrong with a unit: 1 where it is.
 pub fn trouble_tallies(alloc: Global, signs: &Signs) -> Result<Vec<NamedCount>, AllocError> {
-    let mut tallies = Vec::new(alloc);
-    for trouble in &ALL {
-        tallies.push(NamedCount {
-            what: trouble.name(),
-            count: u64::from(signs.show(*trouble)),
-        })?;
-    }
-    Ok(tallies)
+    let counts = ALL.map(|trouble| u64::from(signs.show(trouble)));
+    tallies(alloc, &ALL.map(Trouble::name), &counts)
 }
 
 /// A disk's health in words.
@@ -166,18 +161,40 @@ pub fn health_words(signs: &Signs) -> &'static str {
     "well"
 }
 
+// Notes a sentence about the unit of this number.
+fn note(
+    alloc: Global,
+    problems: &mut Vec<String>,
+    number: u64,
+    sentence: &str,
+) -> Result<(), AllocError> {
+    problems.push(format!(in alloc; "unit {number}: {sentence}")?)?;
+    Ok(())
+}
+
 // Notes what is wrong with a unit.
 fn of_unit(alloc: Global, problems: &mut Vec<String>, unit: &UnitView) -> Result<(), AllocError> {
-    let number = unit.unit;
     if unit.owner != 1 && unit.owner != 2 {
-        problems.push(format!(in alloc; "unit {number}: no controller owns it")?)?;
+        note(alloc, problems, unit.unit, "no controller owns it")?;
     }
     for (trouble, tally) in ALL.iter().zip(&unit.troubles) {
         if tally.count != 0
             && let Some(sentence) = trouble.sentence()
         {
-            problems.push(format!(in alloc; "unit {number}: {sentence}")?)?;
+            note(alloc, problems, unit.unit, sentence)?;
         }
+    }
+    Ok(())
+}
+
+// Notes what is wrong with units.
+fn of_units(
+    alloc: Global,
+    problems: &mut Vec<String>,
+    units: &[UnitView],
+) -> Result<(), AllocError> {
+    for unit in units {
+        of_unit(alloc, problems, unit)?;
     }
     Ok(())
 }
@@ -192,9 +209,7 @@ pub fn problems(
     if log_fails {
         problems.push(format!(in alloc; "The log cannot be written.")?)?;
     }
-    for unit in units {
-        of_unit(alloc, &mut problems, unit)?;
-    }
+    of_units(alloc, &mut problems, units)?;
     Ok(problems)
 }
 
