@@ -71,7 +71,7 @@ pub(crate) enum HintKind {
 }
 
 /// What is told of a command that waits: what will come, and of which run.
-#[derive(Clone, Copy, PartialEq, Eq)]
+#[derive(Clone, Copy)]
 pub(crate) struct Hint {
     pub(crate) kind: HintKind,
     pub(crate) first: u64,
