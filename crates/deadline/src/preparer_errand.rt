@@ -20,7 +20,7 @@ const PART_FOR_OTHERS: u32 = 16;
 const MOST_AHEAD: usize = 524_288;
 
 /// What a preparer is asked.
-#[derive(Clone, Copy, PartialEq, Eq)]
+#[derive(Clone, Copy)]
 pub(crate) enum PreparerCall {
     /// That so many blocks from this one on be in the system's memory.
     Fetch(u64, u16),
@@ -195,12 +195,13 @@ impl<R: Wait + Clock + Drop, P: Preparer> PreparerRunner<R, P> {
         true
     }
 
-    // Takes the hints and passes them on, before what is wanted is done. A flush takes none, and reads nothing ahead.
-    fn listen(&mut self, wanted: PreparerCall) {
+    // Takes the hints and passes them on, before what is wanted is done: whether it is at work then. A flush takes none, and reads nothing
+    // ahead.
+    fn listen(&mut self, wanted: PreparerCall) -> bool {
         self.hints.clear();
         self.has_more = false;
-        if wanted == PreparerCall::Flush {
-            return;
+        if matches!(wanted, PreparerCall::Flush) {
+            return false;
         }
         self.ahead.begin_work();
         self.begun = self.rt.monotonic().ok();
@@ -208,6 +209,7 @@ impl<R: Wait + Clock + Drop, P: Preparer> PreparerRunner<R, P> {
         self.ahead.take_hints(&self.rt, &mut self.hints);
         self.has_more = self.announce();
         self.has_told = self.tell();
+        true
     }
 
     // The disk has given what was asked for behind all that it was told, and so the pages of the hints, too.
@@ -279,7 +281,7 @@ impl<R: Wait + Clock + Drop, P: Preparer> PreparerRunner<R, P> {
 impl<R: Wait + Clock + Drop, P: Preparer> Runner<PreparerErrand<P>> for PreparerRunner<R, P> {
     fn run(&mut self, errand: PreparerErrand<P>) -> PreparerErrand<P> {
         let wanted = errand.wanted;
-        self.listen(wanted);
+        let is_at_work = self.listen(wanted);
         let memory = match (wanted, errand.memory) {
             (PreparerCall::Read(first, is_looked_at), Some(memory)) => {
                 self.preparer.read(first, memory.bytes, is_looked_at)
@@ -289,7 +291,7 @@ impl<R: Wait + Clock + Drop, P: Preparer> Runner<PreparerErrand<P>> for Preparer
         let is_flushed = self.does(wanted);
         self.arrive();
         // else it is at work until it has read ahead
-        if wanted != PreparerCall::Flush && !self.has_more {
+        if is_at_work && !self.has_more {
             self.ahead.end_work();
         }
         PreparerErrand {
