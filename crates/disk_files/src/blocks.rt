@@ -124,13 +124,6 @@ impl<F: BackingFile> FileBlocks<F> {
         Ok(())
     }
 
-    /// The handle.
-    pub(crate) fn file(&self) -> &F
-        ensures { result.now ≡ self.now.file }
-    {
-        &self.file
-    }
-
     /// Which file the device is over.
     pub fn node(&self) -> Node
         ensures { result ≡ F.node self.now.file }

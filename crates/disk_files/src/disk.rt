@@ -2,7 +2,6 @@
 ghost use Rattle.std.specs.Prelude.{◌≡◌, IfOk};
 ghost use Rattle.disk_files.specs.Tally.{none};
 
-use crate::backing::BackingFile;
 use crate::node::node_of;
 use crate::system::{SystemFile, number_of};
 use crate::{DiskFault, FileBlocks, FileFault, FileOpener};
@@ -74,7 +73,7 @@ pub fn open_disk<R: Files<File = File> + Drop>(
         Err(fault) => return Err(fault),
     };
     // Another file may have taken the name in between.
-    if !blocks.file().node().is(lock.node) {
+    if !blocks.node().is(lock.node) {
         return Err(DiskFault::File(FileFault::NotOpened(0)));
     }
     let Ok(opener) = FileOpener::new(rt, alloc, path) else {

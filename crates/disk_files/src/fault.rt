@@ -3,7 +3,7 @@ use aptpl_file::OpenFault;
 use thiserror::Error;
 
 /// Why a file is no device of blocks. A number is the error of the system, 0 where it told none.
-#[derive(Clone, Copy, Debug, PartialEq, Eq, Error)]
+#[derive(Clone, Copy, Debug, Error)]
 pub enum FileFault {
     /// There is none.
     #[error("there is no such file")]
@@ -23,7 +23,7 @@ pub enum FileFault {
 }
 
 /// Why a disk is not used. A number is the error of the system, 0 where it told none.
-#[derive(Clone, Copy, Debug, PartialEq, Eq, Error)]
+#[derive(Clone, Copy, Debug, Error)]
 pub enum DiskFault {
     /// Its file is no device of blocks.
     #[error("{0}")]
@@ -40,7 +40,7 @@ pub enum DiskFault {
 }
 
 /// Why a registration file is not used. A number is the error of the system, 0 where it told none.
-#[derive(Clone, Copy, Debug, PartialEq, Eq, Error)]
+#[derive(Clone, Copy, Debug, Error)]
 pub enum RegistrationsFault {
     /// Its file is no device of blocks.
     #[error("{0}")]

@@ -105,7 +105,7 @@ impl<R: Clock + Wait + Files<File = File> + Drop> FilePreparer<R, SystemFile> {
         ensures node { result.node ≡ blocks.old.file.node }
         ensures shared { IfSome result.flushes (λ share. IsSomeAnd blocks.new.flushes (λ theirs. arc_value theirs ≡ arc_value share)) }
     {
-        let node = blocks.file().node();
+        let node = blocks.node();
         let file = again(&rt, path, node);
         let flushes = shared(alloc, &rt, path, blocks);
         FilePreparer {
@@ -157,7 +157,7 @@ fn shared<R: Files<File = File>>(
         × (blocks.new.tally ≡ blocks.old.tally) × (blocks.new.writes ≡ blocks.old.writes) }
     ensures shared { IfSome result (λ share. IsSomeAnd blocks.new.flushes (λ theirs. arc_value theirs ≡ arc_value share)) }
 {
-    let handles = handles(alloc, rt, path, blocks.file().node());
+    let handles = handles(alloc, rt, path, blocks.node());
     if handles.is_empty() {
         return None;
     }

@@ -96,7 +96,7 @@ impl<F: BackingFile + Drop> Drop for Flushes<F> {
 }
 
 /// Why a flush is not done.
-#[derive(Clone, Copy, PartialEq, Eq)]
+#[derive(Clone, Copy)]
 pub enum FlushFault {
     /// It failed by this error of the system, 0 where that told none.
     Failed(u32),

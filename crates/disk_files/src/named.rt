@@ -44,13 +44,16 @@ impl<R: Files<File = File> + Drop> NamedBlocks<R> {
         requires { blocks.file.node ≡ node }
         ensures { IfOk result (λ d. d.node ≡ node) }
     {
-        Ok(NamedBlocks {
-            rt,
-            blocks,
-            path: String::from_str(alloc, path)?,
-            node,
-            unnamed: 0,
-        })
+        match String::from_str(alloc, path) {
+            Ok(path) => Ok(NamedBlocks {
+                rt,
+                blocks,
+                path,
+                node,
+                unnamed: 0,
+            }),
+            Err(fault) => Err(fault),
+        }
     }
 
     /// Which file they are of.
@@ -183,10 +186,9 @@ impl<R: Files<File = File> + Drop> Blocks for NamedBlocks<R> {
         ensures written { self.new.blocks.writes.count ≡ self.old.blocks.writes.count }
         ensures lasts { OnOk result (IsSettled (lasts self.old.node) self.old.blocks.writes.count) }
     {
-        self.blocks.flush()?;
-        if !self.is_named() {
-            return self.refuse();
+        match self.blocks.flush() {
+            Ok(()) if !self.is_named() => self.refuse(),
+            end => end,
         }
-        Ok(())
     }
 }

@@ -2,7 +2,6 @@
 ghost use Rattle.std.specs.Prelude.{◌≡◌, IfOk, OnOk};
 ghost use Rattle.disk_files.specs.System.{name_lasts};
 
-use crate::backing::BackingFile;
 use crate::system::{give_name, make_name_last, number_of};
 use crate::{
     DiskFault, DiskLock, FileBlocks, FileFault, FileLog, NamedBlocks, RegistrationsFault,
@@ -12,10 +11,9 @@ use aptpl_file::{FILE_BLOCKS, OpenFault, RegFile};
 use block_file::{BLOCK_LENGTH, Blocks};
 use registrants::Record;
 use std::alloc::{AllocError, Global};
-use std::fs::{File, OpenFile};
+use std::fs::{self, File, OpenFile};
 use std::os::unix::fs::MetadataExt;
 use std::rt::Files;
-use std::{fs, io};
 
 /// A registration file: its blocks, the record that it holds, and its lock, which has to live as long as the unit does.
 #[derive(Drop)]
@@ -84,7 +82,7 @@ fn locked<R: Files<File = File>>(
         Err(_) => return Err(RegistrationsFault::NotLocked(0)),
     };
     // Another file may have taken the name in between.
-    if !blocks.file().node().is(lock.node()) {
+    if !blocks.node().is(lock.node()) {
         return Err(RegistrationsFault::File(FileFault::NotOpened(0)));
     }
     Ok(lock)
@@ -162,14 +160,6 @@ fn made<R: Files<File = File>>(rt: &R, folder: &str, path: &str, new: &str) -> R
     }
 }
 
-// What the system said, where a call failed.
-fn told(end: io::Result<()>) -> Result<(), u32> {
-    match end {
-        Ok(()) => Ok(()),
-        Err(e) => Err(number_of(&e)),
-    }
-}
-
 // A file of zeros under this name, in place of what an earlier stop may have left there.
 fn begun<R: Files<File = File>>(rt: &R, new: &str) -> Result<File, u32> {
     let opened = File::options()
@@ -178,12 +168,13 @@ fn begun<R: Files<File = File>>(rt: &R, new: &str) -> Result<File, u32> {
         .create(true)
         .truncate(true)
         .open(rt, new);
-    let file = match opened {
-        Ok(file) => file,
-        Err(e) => return Err(number_of(&e)),
-    };
-    told(file.set_len(BLOCK_LENGTH as u64 * u64::from(FILE_BLOCKS)))?;
-    Ok(file)
+    match opened {
+        Ok(file) => match file.set_len(BLOCK_LENGTH as u64 * u64::from(FILE_BLOCKS)) {
+            Ok(()) => Ok(file),
+            Err(e) => Err(number_of(&e)),
+        },
+        Err(e) => Err(number_of(&e)),
+    }
 }
 
 // Whether a registration file of nothing was written there.
@@ -191,21 +182,29 @@ fn is_formatted(file: File) -> bool {
     let Some(file) = SystemFile::of(file) else {
         return false;
     };
-    let Ok(mut blocks) = FileBlocks::of(file) else {
+    let Ok(blocks) = FileBlocks::of(file) else {
         return false;
     };
+    match formatted(blocks) {
+        Some(blocks) => blocks.into_file().handle().sync_all().is_ok(),
+        None => false,
+    }
+}
+
+// The device, where a registration file of nothing was written there.
+fn formatted<B: Blocks>(mut blocks: B) -> Option<B> {
     if !is_filled(&mut blocks) || blocks.count() < FILE_BLOCKS {
-        return false;
+        return None;
     }
     match RegFile::format(blocks) {
-        Ok(file) => file.close().into_file().handle().sync_all().is_ok(),
-        Err(_) => false,
+        Ok(file) => Some(file.close()),
+        Err(_) => None,
     }
 }
 
 // Whether all blocks were written and flushed, so that the file system has them, however full it becomes: a save that finds no
 // room would be a fence that cannot be had.
-fn is_filled(blocks: &mut FileBlocks<SystemFile>) -> bool {
+fn is_filled<B: Blocks>(blocks: &mut B) -> bool {
     for block in 0..blocks.count() {
         if block >= blocks.count() || blocks.write_run(block, &[0; BLOCK_LENGTH]).is_err() {
             return false;
