@@ -44,8 +44,8 @@ version     the version of the program
 help        these lines
 ";
 
-/// The control socket's way to an array that is served.
-pub(crate) struct ControlSocket<R: Wait + Clock + Drop, A: Administered + Drop> {
+// The control socket's way to an array that is served.
+struct ControlSocket<R: Wait + Clock + Drop, A: Administered + Drop> {
     rt: R,
     version: &'static str,
     array: Arc<A, Global>,
@@ -103,11 +103,6 @@ fn say_end<W: Write>(writer: &mut W, is_ended: bool) -> io::Result<()> {
 }
 
 impl<R: Wait + Clock + Drop, A: Administered + Drop> ControlSocket<R, A> {
-    /// That to this array, by which this version is told.
-    pub(crate) fn new(rt: R, version: &'static str, array: Arc<A, Global>) -> ControlSocket<R, A> {
-        ControlSocket { rt, version, array }
-    }
-
     // The sessions that are logged in.
     fn sessions(&self, alloc: Global) -> Result<Vec<SessionView>, AllocError> {
         let now = self.rt.monotonic().unwrap_or(Duration::ZERO);
@@ -125,6 +120,11 @@ impl<R: Wait + Clock + Drop, A: Administered + Drop> ControlSocket<R, A> {
             say_session(writer, session)?;
         }
         Ok(())
+    }
+
+    fn say_version<W: Write>(&self, writer: &mut W) -> io::Result<()> {
+        let version = self.version;
+        writeln!(writer, "arrayd {version}")
     }
 
     fn say_up<W: Write>(&self, writer: &mut W, controller: Group) -> io::Result<()> {
@@ -167,16 +167,15 @@ impl<R: Wait + Clock + Drop, A: Administered + Drop> ControlSocket<R, A> {
 
     // Answers a line.
     fn answer<W: Write>(&self, alloc: Global, writer: &mut W, line: &[u8]) -> io::Result<()> {
-        let version = self.version;
         match text_of(line) {
             Some("status") => self.array.say_status(&self.rt, writer),
             Some("up 1") => self.say_up(writer, Group::One),
             Some("up 2") => self.say_up(writer, Group::Two),
             Some("sessions") => self.say_sessions(alloc, writer),
-            Some("version") => writeln!(writer, "arrayd {version}"),
-            Some("help") => write!(writer, "{HELP}"),
+            Some("version") => self.say_version(writer),
+            Some("help") => writer.write_all(HELP.as_bytes()),
             Some(text) => self.say_numbered(alloc, writer, text),
-            None => writeln!(writer, "?"),
+            None => writer.write_all(b"?\n"),
         }
     }
 
@@ -265,11 +264,22 @@ pub fn remove(rt: &impl Files, path: Option<&str>) {
     }
 }
 
-/// Answers at the control socket, by a thread of its own.
+/// Answers at the control socket, by a thread of its own, for an array that is served.
 pub(crate) fn answer<
     R: Threads + Wait + Clock + Clone + Drop + Send + Sync + 'static,
     A: Administered + Drop + Send + Sync + 'static,
->(rt: &R, alloc: Global, listener: UnixListener, control: ControlSocket<R, A>) -> io::Result<()> {
+>(
+    rt: &R,
+    alloc: Global,
+    version: &'static str,
+    array: &Arc<A, Global>,
+    listener: UnixListener,
+) -> io::Result<()> {
+    let control = ControlSocket {
+        rt: rt.clone()?,
+        version,
+        array: Arc::try_clone(array)?,
+    };
     let work = move || control.accept(alloc, &listener);
     let _thread: JoinHandle<()> = Builder::new().stack_size(STACK).spawn(rt, work)?;
     Ok(())

@@ -2,11 +2,12 @@
 
 use crate::administered::Administered;
 use crate::collector::ArrayCollector;
-use crate::control::{self, ControlSocket};
+use crate::control;
 use command_line::{Fault, Options};
 use event_log::Log;
 use std::alloc::Global;
 use std::fs::File;
+use std::io;
 use std::net::{Net, TcpListener};
 use std::os::unix::net::UnixListener;
 use std::random::RandomSource;
@@ -73,6 +74,23 @@ pub fn open<R: Files<File = File> + Net + Clock>(
     })
 }
 
+// Opens the window, which collects of an array that is served.
+fn open_window<
+    R: Threads + Wait + Clock + RandomSource + Clone + Drop + Send + Sync + 'static,
+    A: Administered + Drop + Send + Sync + 'static,
+>(
+    rt: &R,
+    alloc: Global,
+    options: &Options<'_>,
+    version: &'static str,
+    array: &Arc<A, Global>,
+    listener: TcpListener,
+) -> io::Result<()> {
+    let array = Arc::try_clone(array)?;
+    let collector = ArrayCollector::new(rt.clone()?, alloc, options, version, array)?;
+    window::open(rt, alloc, listener, collector)
+}
+
 /// Answers at both sockets, by threads of their own, for an array that is served.
 pub fn answer<
     R: Threads + Wait + Clock + RandomSource + Clone + Drop + Send + Sync + 'static,
@@ -89,19 +107,15 @@ pub fn answer<
         http,
         control,
     } = sockets;
-    if let Some(listener) = http {
-        let array = Arc::try_clone(array)?;
-        let collector = ArrayCollector::new(rt.clone()?, alloc, options, version, array)?;
-        if window::open(rt, alloc, listener, collector).is_err() {
-            return Err(Fault::NoMemory);
-        }
+    if let Some(listener) = http
+        && open_window(rt, alloc, options, version, array, listener).is_err()
+    {
+        return Err(Fault::NoMemory);
     }
-    if let Some(listener) = control {
-        let array = Arc::try_clone(array)?;
-        let control = ControlSocket::new(rt.clone()?, version, array);
-        if control::answer(rt, alloc, listener, control).is_err() {
-            return Err(Fault::NoMemory);
-        }
+    if let Some(listener) = control
+        && control::answer(rt, alloc, version, array, listener).is_err()
+    {
+        return Err(Fault::NoMemory);
     }
     Ok(())
 }
