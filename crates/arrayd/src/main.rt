@@ -13,9 +13,10 @@ mod told;
 
 use administration::Asked;
 use array::{open, open_files, serve, serve_timed, tell_want};
-use command_line::Fault;
+use command_line::{Fault, Options};
 use event_log::{Event, Log, Page, start};
 use log_file::LogFile;
+use settings::Settings;
 use std::alloc::Global;
 use std::env::Env;
 use std::fs::File;
@@ -64,6 +65,14 @@ fn complain(rt: &impl Eprint, fault: Fault) -> ExitCode
     fault.status()
 }
 
+// The exit status of what has ended so.
+fn status_of_end(rt: &impl Eprint, end: Result<(), Fault>) -> ExitCode {
+    match end {
+        Ok(()) => ExitCode::SUCCESS,
+        Err(fault) => complain(rt, fault),
+    }
+}
+
 // The same, before the log is open. Which word or variable is wrong is written to the log's file first.
 fn refuse<R: Clock + Env + AllocGlobal + Files<File = File> + Eprint + Clone + Drop>(
     rt: &R,
@@ -79,9 +88,41 @@ fn refuse<R: Clock + Env + AllocGlobal + Files<File = File> + Eprint + Clone + D
     complain(rt, fault)
 }
 
-// The part of the command line that is wrong; empty where there is no memory for it.
-fn wrong_part(alloc: Global, words: &[String]) -> String {
-    command_line::wrong_part(alloc, words).unwrap_or(String::new(alloc))
+// The options that the words give; or the exit status, where a word is wrong.
+fn options_of<'a, R: Clock + Env + AllocGlobal + Files<File = File> + Eprint + Clone + Drop>(
+    rt: &R,
+    alloc: Global,
+    words: &'a [String],
+) -> Result<Options<'a>, ExitCode> {
+    match command_line::read(alloc, words) {
+        Ok(options) => Ok(options),
+        Err(fault) => {
+            let part = command_line::wrong_part(alloc, words).unwrap_or(String::new(alloc));
+            Err(refuse(rt, alloc, Fault::from(fault), part.as_str()))
+        }
+    }
+}
+
+// The options, of the words and of the environment, and what else the environment asks for; or the exit status, where the words
+// ask for what is done at once, or where something is wrong.
+fn asked<
+    'a,
+    R: Clock + Env + AllocGlobal + Files<File = File> + Input + Print + Eprint + Clone + Drop,
+>(rt: &R, alloc: Global, words: &'a [String]) -> Result<(Options<'a>, Settings), ExitCode> {
+    if told::tells(rt, words) {
+        return Err(ExitCode::SUCCESS);
+    }
+    let mut options = options_of(rt, alloc, words)?;
+    if options.is_once {
+        return Err(status_of_end(rt, once::serve_once(rt, alloc)));
+    }
+    match settings::read(rt) {
+        Ok(settings) => {
+            options.second_host = settings.second_host;
+            Ok((options, settings))
+        }
+        Err(refused) => Err(refuse(rt, alloc, refused.0, refused.1)),
+    }
 }
 
 // The same as `complain`, once the log is open: it is told of want of memory, and closed.
@@ -100,28 +141,10 @@ fn main(rt: HostRuntime) -> ExitCode {
         Ok(words) => words,
         Err(fault) => return refuse(&rt, alloc, fault, "a word that is not UTF-8"),
     };
-    if told::tells(&rt, words.as_slice()) {
-        return ExitCode::SUCCESS;
-    }
-    let mut options = match command_line::read(alloc, words.as_slice()) {
-        Ok(options) => options,
-        Err(fault) => {
-            let part = wrong_part(alloc, words.as_slice());
-            return refuse(&rt, alloc, Fault::from(fault), part.as_str());
-        }
+    let (options, settings) = match asked(&rt, alloc, words.as_slice()) {
+        Ok(found) => found,
+        Err(status) => return status,
     };
-    if options.is_once {
-        return match once::serve_once(&rt, alloc) {
-            Ok(()) => ExitCode::SUCCESS,
-            Err(fault) => complain(&rt, fault),
-        };
-    }
-    let settings = match settings::read(&rt) {
-        Ok(settings) => settings,
-        Err(refused) => return refuse(&rt, alloc, refused.0, refused.1),
-    };
-    // of the environment, not of the words
-    options.second_host = settings.second_host;
     let asked = &settings.asked;
     let (log, file) = match counting_log(&rt, alloc, asked, options.paths.len()) {
         Ok(found) => found,
@@ -159,10 +182,7 @@ fn main(rt: HostRuntime) -> ExitCode {
             reader,
             &mut writer,
         );
-        return match served {
-            Ok(()) => ExitCode::SUCCESS,
-            Err(fault) => complain(&rt, fault),
-        };
+        return status_of_end(&rt, served);
     }
     let array = match open(&rt, alloc, &log, &options) {
         Ok(array) => array,
@@ -178,8 +198,5 @@ fn main(rt: HostRuntime) -> ExitCode {
         rt.reader(),
         &mut io::writer(&rt),
     );
-    match served {
-        Ok(()) => ExitCode::SUCCESS,
-        Err(fault) => complain(&rt, fault),
-    }
+    status_of_end(&rt, served)
 }
