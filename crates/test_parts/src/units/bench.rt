@@ -4,7 +4,6 @@ use crate::units::ended::Ended;
 use crate::units::reg_file::files::{OPEN_CALLS, formatted};
 use crate::units::rows::Row;
 use crate::units::served::Served;
-use crate::units::unit::opened;
 use block_file::{Blocks, DeviceFailed, FusedOpener, KeepOpener, MemBlocks};
 use crash_blocks::Pick;
 use scsi_types::Place;
@@ -83,9 +82,8 @@ impl Bench {
         let file = from_the_open(faults.file).device(alloc, file);
         let file = file.expect(rt, "memory");
         let opener = FusedOpener::new(KeepOpener, faults.opens);
-        let unit = opened(rt, alloc, place, blocks, file, opener);
         Bench {
-            served: Served::new(alloc, unit),
+            served: Served::open(rt, alloc, place, blocks, file, opener),
         }
     }
 
@@ -103,7 +101,7 @@ impl Bench {
     /// The memory of the blocks, and of the registration file, as a loss of power leaves them.
     pub fn lose_power(self, pick: Pick) -> (MemBlocks, MemBlocks) {
         let Bench { served } = self;
-        let (blocks, file, _opener) = served.into_unit().close();
+        let (blocks, file) = served.close();
         (crashed(blocks, pick), crashed(file, pick))
     }
 }

@@ -3,10 +3,12 @@ use crate::ends::fail;
 use crate::units::ended::Ended;
 use crate::units::rows::{Row, cdb_of};
 use crate::units::unit::AnyUnit;
-use scsi_types::{Group, decode};
+use aptpl_file::RegFile;
+use block_file::{Blocks, Opener};
+use scsi_types::{Group, Place, decode};
 use std::alloc::Global;
 use std::process::Abort;
-use unit_state::SessionId;
+use unit_state::{SessionId, Unit};
 
 /// A session that was attached: its id, its group, and the serial of its next command.
 #[derive(Clone, Copy)]
@@ -23,21 +25,34 @@ pub struct Served<U: AnyUnit> {
     sessions: Vec<Attached>,
 }
 
-impl<U: AnyUnit> Served<U> {
-    /// A unit to which no session is attached.
-    pub fn new(alloc: Global, unit: U) -> Served<U> {
+impl<B: Blocks, F: Blocks, O: Opener<B>> Served<Unit<B, F, O>> {
+    /// A unit as it opens, with what its registration file holds, to which no session is attached.
+    pub fn open(
+        rt: &impl Abort,
+        alloc: Global,
+        place: Place,
+        blocks: B,
+        file: F,
+        opener: O,
+    ) -> Served<Unit<B, F, O>> {
+        assert!(rt; blocks.count() > 0, "a unit of one block at least");
+        let (file, lasted) = RegFile::open(alloc, file).expect(rt, "a record that lasted");
+        let unit = Unit::open(alloc, place, blocks, opener, file, lasted).expect(rt, "memory");
         Served {
             unit,
             sessions: Vec::new(alloc),
         }
     }
 
-    /// The unit, without its sessions.
-    pub fn into_unit(self) -> U {
+    /// Hands the devices of the blocks and of the registration file back.
+    pub fn close(self) -> (B, F) {
         let Served { unit, .. } = self;
-        unit
+        let (blocks, file, _opener) = unit.close();
+        (blocks, file)
     }
+}
 
+impl<U: AnyUnit> Served<U> {
     /// Makes the call of a row.
     pub fn call(&mut self, rt: &impl Abort, alloc: Global, row: &Row) -> Ended {
         let (word, rest) = row.call();

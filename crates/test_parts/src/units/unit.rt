@@ -1,8 +1,7 @@
-//! A unit as a script sees it, and how one is opened.
+//! A unit as a script sees it.
 use crate::units::ended::{Ended, moved, numbered, stepped, worded};
-use aptpl_file::RegFile;
 use block_file::{Blocks, Opener, ReplyMemory};
-use scsi_types::{Asked, Group, Place, PortName};
+use scsi_types::{Asked, Group, PortName};
 use std::alloc::Global;
 use std::process::Abort;
 use unit_state::{AttachFault, SessionId, Unit};
@@ -80,18 +79,4 @@ impl<B: Blocks, F: Blocks, O: Opener<B>> AnyUnit for Unit<B, F, O> {
         let end = Unit::flush(self);
         worded(alloc, if end.is_ok() { "DONE" } else { "FAILED" })
     }
-}
-
-/// A unit as it opens, with what its registration file holds.
-pub fn opened<B: Blocks, F: Blocks, O: Opener<B>>(
-    rt: &impl Abort,
-    alloc: Global,
-    place: Place,
-    blocks: B,
-    file: F,
-    opener: O,
-) -> Unit<B, F, O> {
-    assert!(rt; blocks.count() > 0, "a unit of one block at least");
-    let (file, lasted) = RegFile::open(alloc, file).expect(rt, "a record that lasted");
-    Unit::open(alloc, place, blocks, opener, file, lasted).expect(rt, "memory")
 }

@@ -2,7 +2,7 @@
 //! reads for the others behind its answer.
 ghost use Rattle.std.specs.Prelude.{false};
 
-use crate::ends::must;
+use crate::ends::{fail, must};
 use crate::units::files::runs::{clean, folder, path_of, sized, writes};
 use block_file::{Blocks, KeepOpener};
 use deadline::{Deadlined, DeadlinedPreparer, Watch};
@@ -114,7 +114,7 @@ fn what_is_read_ahead_is_taken_unless_a_write_has_come_back_since(rt: HostRuntim
     let (disk, watch) = (blocks.node(), watch(&rt, alloc));
     let preparer = DeadlinedPreparer::start(&rt, alloc, by, disk, &watch).expect(&rt, "threads");
     if blocks.count() == 0 {
-        return;
+        fail(&rt, path, &"no blocks");
     }
     let device = Deadlined::start(&rt, alloc, blocks, KeepOpener, disk, &watch);
     let mut device = device.expect(&rt, "a thread");

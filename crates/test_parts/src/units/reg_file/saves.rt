@@ -79,6 +79,14 @@ fn stopping(
     failing.device(alloc, blocks).expect(rt, "memory")
 }
 
+// Opens the file of this device, and saves: where the save failed, and the device.
+fn saved<F: Blocks>(rt: &impl Abort, alloc: Global, device: F) -> (Option<SaveFault>, F) {
+    let (mut file, _old) = RegFile::open(alloc, device).expect(rt, "a registration file");
+    let registry = registry_after(rt, alloc, REQUEST);
+    let fault = file.save(&registry.lasting()).err();
+    (fault, file.close())
+}
+
 /// Opens the file, and saves over a device that stops there: where the save failed, and the blocks that these pick is left.
 fn stopped(
     rt: &impl Abort,
@@ -89,10 +97,8 @@ fn stopped(
     let old = old_file(rt, alloc, stop.version);
     let behind = stop.calls.saturating_add(OPEN_CALLS);
     let device = stopping(rt, alloc, old, behind, stop.lands);
-    let (mut file, _old) = RegFile::open(alloc, device).expect(rt, "a registration file");
-    let registry = registry_after(rt, alloc, REQUEST);
-    let fault = file.save(&registry.lasting()).err();
-    (fault, crashed(file.close(), pick))
+    let (fault, device) = saved(rt, alloc, device);
+    (fault, crashed(device, pick))
 }
 
 /// Where a save fails that stops at this call, counted from 0.
@@ -149,22 +155,31 @@ fn has_the_new_root(rt: &impl Abort, alloc: Global, version: u8) -> bool {
     fault == None && block_of(&mut device, 0) == root
 }
 
-/// A format fails that stops at one of its four calls.
-fn format(rt: &impl Abort, alloc: Global, calls: u64) {
-    let device = MemBlocks::new(alloc, FILE_BLOCKS).expect(rt, "memory");
-    let device = stopping(rt, alloc, device, calls, 0);
+// Where a format of this device fails.
+fn format_fault<F: Blocks>(rt: &impl Abort, device: F) -> Option<SaveFault> {
     assert!(rt;
         device.count() >= FILE_BLOCKS,
         "a registration file's blocks"
     );
-    let fault = RegFile::format(device).err();
+    RegFile::format(device).err()
+}
+
+/// A format fails that stops at one of its four calls.
+fn format(rt: &impl Abort, alloc: Global, calls: u64) {
+    let device = MemBlocks::new(alloc, FILE_BLOCKS).expect(rt, "memory");
+    let fault = format_fault(rt, stopping(rt, alloc, device, calls, 0));
     must(rt, fault == place_of(calls), "a format", &(calls, fault));
+}
+
+// Why the file of this device does not open.
+fn open_fault<F: Blocks>(alloc: Global, device: F) -> Option<OpenFault> {
+    RegFile::open(alloc, device).err()
 }
 
 /// An open fails that stops at one of its three calls.
 fn open(rt: &impl Abort, alloc: Global, version: u8, calls: u64) {
     let old = old_file(rt, alloc, version);
-    let fault = RegFile::open(alloc, stopping(rt, alloc, old, calls, 0)).err();
+    let fault = open_fault(alloc, stopping(rt, alloc, old, calls, 0));
     let wanted = (calls < OPEN_CALLS).then_some(OpenFault::DeviceFailed);
     must(rt, fault == wanted, "an open", &(calls, fault));
 }
