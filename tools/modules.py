@@ -4,7 +4,7 @@ the checker makes of its code (Lts, Tie, Layout, Reads), the goals, the answers 
 
     cd crates/NAME && rm -rf out/incremental && rt check --jobs 1 >log && cd ../.. && tools/modules.py NAME
 
-usage: tools/modules.py NAME [N]      the N modules and the N functions that took longest, by the clock; a gap of more than a minute is left out
+usage: tools/modules.py NAME [N]      the N modules and the N functions that took longest, by the clock; a gap of more than twenty minutes is left out
 """
 
 import collections
@@ -37,7 +37,7 @@ def module_of(name):
 def main():
     name, most = sys.argv[1], int(sys.argv[2]) if len(sys.argv) > 2 else 25
     files = kept(f"crates/{name}/out/incremental")
-    steps = [(now - before, file) for (before, _), (now, file) in zip(files, files[1:]) if now - before < 60]
+    steps = [(now - before, file) for (before, _), (now, file) in zip(files, files[1:]) if now - before < 1200]
     functions, kinds = collections.Counter(), collections.Counter()
     for seconds, file in steps:
         function, kind = module_of(file)
