@@ -1,5 +1,5 @@
 -- Units and the preparers of their disks, in the same order: for those who serve an array.
-use Rattle.std.proofs.Common.{◌≡◌, ◌∙◌, ap, sym, subst, List, [], ◌∷◌, ◌++◌, map}
+use Rattle.std.proofs.Common.{◌≡◌, ◌∙◌, ap, sym, subst, ℕ, List, [], ◌∷◌, ◌++◌, map}
 use Rattle.std.proofs.lemmas.List.{map-append}
 use Rattle.disk_preparer.specs.declared.Node.{Node}
 use Rattle.portal.specs.Disks.{AreOver, named_by, over_their_own}
@@ -9,9 +9,9 @@ use Rattle.unit_history.specs.Naming.{book_of, opening_of, table_of}
 use Rattle.unit_history.specs.declared.new_unit.NewUnit.{NewUnit}
 use Rattle.unit_sequence.specs.declared.naming.Namings.{Ghosts as NamesOfUnits}
 
--- the names of an array's units, as they are picked where their devices claim nothing
-abbrev pub names_of : {S B F O : Type 0} → List (NewUnit B F O) → NamesOfUnits S UnitState
-names_of units = record { book = book_of units; table = table_of units; opening = opening_of (λ d. []) units }
+-- the names of an array's units, as they are picked
+abbrev pub names_of : {S B F O : Type 0} → (B → List (List ℕ)) → List (NewUnit B F O) → NamesOfUnits S UnitState
+names_of contents units = record { book = book_of units; table = table_of units; opening = opening_of contents units }
 
 -- and those of its disks
 abbrev pub disks_of : {S T : Type 0} → (T → Node) → List T → NamesOfDisks S

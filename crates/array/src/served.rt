@@ -1,6 +1,6 @@
 //! The array as it is served.
 
-ghost use Rattle.std.specs.Prelude.{◌≤◌, length};
+ghost use Rattle.std.specs.Prelude.{◌≡◌, ◌≤◌, length, map};
 ghost use Rattle.portal.specs.Disks.{AreOver};
 ghost use Rattle.portal.specs.Lanes.{AreLanesOf};
 ghost use Rattle.scsi_types.specs.declared.names.Group.TheVariants.{One, Two};
@@ -26,6 +26,7 @@ use scsi_types::Group;
 use std::alloc::Global;
 use std::fs::File;
 use std::io::{BufRead, Write};
+use std::marker::Brand;
 use std::net::{Net, SocketAddrV4, TcpListener, TcpStream};
 use std::random::RandomSource;
 use std::rt::Files;
@@ -218,10 +219,8 @@ pub fn tell_want<R: Clock>(rt: &R, log: &Log, fault: Fault) {
     }
 }
 
-/// Serves an array whose files are open, at the portals that the words ask for, until its console has no more lines for it or says
-/// `quit`. Behind it the last lines of the log are written, and only then another server may have the files. The names of the
-/// units and of their disks are picked where it is called: the preparer at each place is of the file that the unit there is over.
-pub fn serve<
+// Serves an array, as `serve` does, under the names that are given to its units and to their disks.
+fn serve_named<
     N: Namings<Opened> + Disks + Send + Sync + 'static,
     B: Blocks + OnDisk + Send + Sync + 'static,
     F: Blocks + Send + Sync + 'static,
@@ -282,4 +281,51 @@ pub fn serve<
     // They live as long as the array is served.
     drop(locks);
     ended
+}
+
+/// Serves an array whose files are open, at the portals that the words ask for, until its console has no more lines for it or says
+/// `quit`. Behind it the last lines of the log are written, and only then another server may have the files. The preparer at each
+/// place is of the file that the unit there is over.
+#[tactic(auto, using(portal::specs::Disks::over_their_own, crate::proofs::Pairs::over_the_same))]
+pub fn serve<
+    B: Blocks + OnDisk + Send + Sync + 'static,
+    F: Blocks + Send + Sync + 'static,
+    O: Opener<B> + Send + Sync + 'static,
+    P: Preparer + Send + Sync + 'static,
+    R: Threads
+        + Wait
+        + Clock
+        + Files<File = File>
+        + Net<Listener = TcpListener, Stream = TcpStream>
+        + RandomSource
+        + Clone
+        + Drop
+        + Send
+        + Sync
+        + 'static,
+    I: BufRead + Drop,
+    C: Write,
+>(
+    rt: &R,
+    alloc: Global,
+    options: &Options<'_>,
+    array: OpenArray<B, F, O, P>,
+    log: &Log,
+    administration: Option<Administration<'_>>,
+    reader: I,
+    writer: &mut C,
+) -> Result<(), Fault>
+    requires count { length array.units.items ≤ MAX_UNITS }
+    requires disks { map (λ new. B.OnDisk.disk new.unit.device) array.units.items ≡ map P.disk array.preparers.items }
+{
+    serve_named::<Brand, B, F, O, P, R, I, C>(
+        rt,
+        alloc,
+        options,
+        array,
+        log,
+        administration,
+        reader,
+        writer,
+    )
 }

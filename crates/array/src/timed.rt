@@ -17,7 +17,6 @@ use scsi_types::Place;
 use std::alloc::Global;
 use std::fs::File;
 use std::io::{BufRead, Write};
-use std::marker::Brand;
 use std::net::{Net, TcpListener, TcpStream};
 use std::random::RandomSource;
 use std::rt::Files;
@@ -229,7 +228,6 @@ fn start_timed<
 }
 
 /// Serves the array over these parts, as `serve` does. Each call on their files takes so long at most.
-#[tactic(auto, using(portal::specs::Disks::over_their_own, crate::proofs::Pairs::over_the_same))]
 pub fn serve_timed<
     R: Threads
         + Wait
@@ -267,16 +265,7 @@ pub fn serve_timed<
             return Err(fault);
         }
     };
-    serve::<
-        Brand,
-        Deadlined<R, B, O>,
-        Deadlined<R, F, KeepOpener>,
-        DeadlinedOpener,
-        DeadlinedPreparer<R, P>,
-        R,
-        I,
-        C,
-    >(
+    serve(
         rt,
         alloc,
         options,

@@ -20,7 +20,6 @@ use settings::Settings;
 use std::alloc::Global;
 use std::env::Env;
 use std::fs::File;
-use std::marker::Brand;
 use std::process::ExitCode;
 use std::rt::Files;
 use std::time::Clock;
@@ -134,7 +133,6 @@ fn give_up(rt: &(impl Eprint + Clock), log: &Log, fault: Fault) -> ExitCode
     complain(rt, fault)
 }
 
-#[tactic(auto, using(crate::proofs::Disks::units_are, crate::proofs::Disks::preparers_are))]
 fn main(rt: HostRuntime) -> ExitCode {
     let alloc = rt.alloc();
     let words = match all_words(&rt) {
@@ -188,7 +186,7 @@ fn main(rt: HostRuntime) -> ExitCode {
         Ok(array) => array,
         Err(fault) => return give_up(&rt, &log, fault),
     };
-    let served = serve::<Brand, _, _, _, _, HostRuntime, _, _>(
+    let served = serve(
         &rt,
         alloc,
         &options,

@@ -11,7 +11,6 @@ use event_log::Log;
 use std::alloc::Global;
 use std::fs::{self, File};
 use std::io::BufReader;
-use std::marker::Brand;
 use std::net::{Net, TcpListener, TcpStream};
 use std::process::{self, Abort};
 use std::rt::Files;
@@ -221,9 +220,7 @@ fn units_have_their_files_and_portals_their_groups(rt: HostRuntime) -> Result<()
         let Ok(array) = open(&rt, alloc, &log, &options) else {
             return Err("an array that is opened".into());
         };
-        let end = serve::<Brand, _, _, _, _, _, _, _>(
-            &rt, alloc, &options, array, &log, None, reader, &mut said,
-        );
+        let end = serve(&rt, alloc, &options, array, &log, None, reader, &mut said);
         assert!(rt; end.is_ok());
         compare(&rt, alloc, &visited, said.as_slice(), hosts.as_mut_slice())?;
     }

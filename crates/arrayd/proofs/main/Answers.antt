@@ -1,7 +1,6 @@
 use denote.Param.Send.{sendable}
 use Rattle.std.proofs.Crossing.{crosses}
 use Rattle.disk_files.proofs.Sent.{files_cross}
-use Rattle.arrayd.proofs.Disks.{units_are, preparers_are}
 use Rattle.arrayd.proofs.main.Goals as goal
 
 -- What goes to threads: no fact of what main has done before is of use, and there are too many of them to look at.
@@ -45,7 +44,4 @@ serve-served-requires-sync-P g _ κs = search (files_cross, sendable, crosses) d
 -- The preparer at each place is of the file that the unit there is over.
 
 pub serve-served-requires-clause-disks : goal.serve-served-requires-clause-disks
-serve-served-requires-clause-disks g c κs = units_are _ _
-
-pub serve-served-requires-clause-prepared : goal.serve-served-requires-clause-prepared
-serve-served-requires-clause-prepared g c κs = preparers_are _ _ _ c.in-Ok-open.ensures.disks
+serve-served-requires-clause-disks g c κs = c.in-Ok-open.ensures.disks

@@ -1,8 +1,6 @@
 use denote.Param.Send.{sendable}
 use Rattle.std.proofs.Crossing.{crosses}
 use Rattle.disk_files.proofs.Sent.{files_cross}
-use Rattle.portal.specs.Disks.{over_their_own}
-use Rattle.array.proofs.Pairs.{over_the_same}
 use Rattle.test_array.proofs.whole.units_have_their_files_and_portals_their_groups.Goals as goal
 
 pub serve-end-requires-send-B : goal.serve-end-requires-send-B
@@ -26,7 +24,4 @@ serve-end-requires-sync-P g _ κs = search (files_cross, sendable, crosses) dept
 -- The preparer at each place is of the file that the unit there is over.
 
 pub serve-end-requires-clause-disks : goal.serve-end-requires-clause-disks
-serve-end-requires-clause-disks g c κs = over_their_own _ _
-
-pub serve-end-requires-clause-prepared : goal.serve-end-requires-clause-prepared
-serve-end-requires-clause-prepared g c κs = over_the_same _ _ _ c.in-Ok.ensures.disks
+serve-end-requires-clause-disks g c κs = c.in-Ok.ensures.disks
