@@ -1,5 +1,5 @@
 //! The units of the array, over files.
-ghost use Rattle.std.specs.Prelude.{◌≡◌, ◌<◌, ◌≤◌, IfOk, length, map};
+ghost use Rattle.std.specs.Prelude.{◌≡◌, ◌+◌, ◌<◌, ◌≤◌, [], IfOk, OnOk, length, map};
 ghost use Rattle.unit_state.specs.Serials.{IsOpening};
 
 use aptpl_file::OpenFault;
@@ -9,6 +9,7 @@ use disk_files::{
     Disk, DiskFault, DiskLock, FileBlocks, FileFault, FileLog, FileOpener, FilePreparer,
     NamedBlocks, Registrations, RegistrationsFault, SystemFile, open_disk, open_registrations,
 };
+use disk_preparer::{OnDisk, Preparer};
 use event_log::{Event, Log, Part, Unusable};
 use scsi_types::Place;
 use std::alloc::Global;
@@ -29,6 +30,41 @@ pub struct OpenArray<B: Blocks, F: Blocks, O: Opener<B>, P> {
     pub units: Vec<NewUnit<B, F, O>>,
     pub preparers: Vec<P>,
     pub locks: Vec<[DiskLock; 2]>,
+}
+
+impl<B: Blocks + OnDisk, F: Blocks, O: Opener<B>, P: Preparer> OpenArray<B, F, O, P> {
+    // An array of no units.
+    pub(crate) fn new(alloc: Global) -> OpenArray<B, F, O, P>
+        ensures units { result.units.items ≡ [] }
+        ensures preparers { result.preparers.items ≡ [] }
+    {
+        OpenArray {
+            units: Vec::new(alloc),
+            preparers: Vec::new(alloc),
+            locks: Vec::new(alloc),
+        }
+    }
+
+    // Puts a unit behind those that there are, with the preparer of its disk, and its locks.
+    pub(crate) fn push(
+        &mut self,
+        alloc: Global,
+        unit: Unit<B, F, O>,
+        preparer: P,
+        locks: [DiskLock; 2],
+    ) -> Result<(), Fault>
+        requires opening { IsOpening unit.control }
+        requires disk { B.OnDisk.disk unit.device ≡ P.disk preparer }
+        requires disks { map (λ new. B.OnDisk.disk new.unit.device) self.old.units.items ≡ map P.disk self.old.preparers.items }
+        ensures disks { OnOk result (
+            map (λ new. B.OnDisk.disk new.unit.device) self.new.units.items ≡ map P.disk self.new.preparers.items) }
+        ensures count { OnOk result (length self.new.units.items ≡ length self.old.units.items + 1) }
+    {
+        self.units.push(NewUnit::new(alloc, unit)?)?;
+        self.preparers.push(preparer)?;
+        self.locks.push(locks)?;
+        Ok(())
+    }
 }
 
 /// One over files.
@@ -209,19 +245,11 @@ pub fn open<R: Files<File = File> + Clock + Wait + Clone + Drop>(
     ensures disks { IfOk result (λ array.
         map (λ new. new.unit.device.file.node) array.units.items ≡ map (λ preparer. preparer.node) array.preparers.items) }
 {
-    let mut units = Vec::new(alloc);
-    let mut locks = Vec::new(alloc);
-    let mut preparers = Vec::new(alloc);
+    let mut array = OpenArray::new(alloc);
     for unit in 0..options.paths.len() as u8 {
         let (place, path) = place_of(options, unit);
-        let (opened, both, preparer) = open_unit(rt, alloc, log, place, path)?;
-        units.push(NewUnit::new(alloc, opened)?)?;
-        locks.push(both)?;
-        preparers.push(preparer)?;
+        let (opened, locks, preparer) = open_unit(rt, alloc, log, place, path)?;
+        array.push(alloc, opened, preparer, locks)?;
     }
-    Ok(OpenArray {
-        units,
-        preparers,
-        locks,
-    })
+    Ok(array)
 }

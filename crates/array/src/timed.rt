@@ -23,7 +23,6 @@ use std::rt::Files;
 use std::sync::{Arc, Wait};
 use std::thread::Threads;
 use std::time::{Clock, Duration};
-use unit_history::NewUnit;
 use unit_state::{Unit, laws};
 
 /// What a unit will be over: its disk with what opens it anew and its preparer, its registration file, and the locks of both.
@@ -207,24 +206,16 @@ fn start_timed<
     ensures disks { IfOk result (λ array.
         map (λ new. new.unit.device.node) array.units.items ≡ map (λ preparer. preparer.node) array.preparers.items) }
 {
-    let mut units = Vec::new(alloc);
-    let mut locks = Vec::new(alloc);
-    let mut preparers = Vec::new(alloc);
+    let mut array = OpenArray::new(alloc);
     for part in parts {
-        let (unit, preparer, both) = part.start(rt, alloc, log, patience)?;
-        units.push(NewUnit::new(alloc, unit)?)?;
-        locks.push(both)?;
-        preparers.push(preparer)?;
+        let (unit, preparer, locks) = part.start(rt, alloc, log, patience)?;
+        array.push(alloc, unit, preparer, locks)?;
     }
     // There are no more than the words ask for.
-    if units.len() > MAX_UNITS {
+    if array.units.len() > MAX_UNITS {
         return Err(Fault::WrongWords);
     }
-    Ok(OpenArray {
-        units,
-        preparers,
-        locks,
-    })
+    Ok(array)
 }
 
 /// Serves the array over these parts, as `serve` does. Each call on their files takes so long at most.

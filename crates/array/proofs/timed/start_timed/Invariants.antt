@@ -3,4 +3,4 @@ use Rattle.array.proofs.timed.start_timed.Given as goal
 
 abbrev pub invariant-loop-part : goal.invariant-loop-part
 invariant-loop-part g l =
-    map (λ new. new.unit.device.node) l.units.items ≡ map (λ preparer. preparer.node) l.preparers.items
+    map (λ new. new.unit.device.node) l.array.units.items ≡ map (λ preparer. preparer.node) l.array.preparers.items
