@@ -1,7 +1,7 @@
 //! The start of `arrayd`, a disk array over iSCSI: its words, its environment, its log, then the array; and the exit status of each fault.
 #![tactic(auto)]
 
-ghost use Rattle.std.specs.Prelude.{◌≡◌};
+ghost use Rattle.std.specs.Prelude.{◌≡◌, ◌≤◌, IfOk, length};
 ghost use Rattle.std.specs.Process.{exit_status};
 ghost use Rattle.command_line.specs.Fault.{status_of};
 
@@ -13,7 +13,7 @@ mod told;
 
 use administration::Asked;
 use array::{open, open_files, serve, serve_timed, tell_want};
-use command_line::{Fault, Options};
+use command_line::{Fault, MAX_UNITS, Options};
 use event_log::{Event, Log, Page, start};
 use log_file::LogFile;
 use settings::Settings;
@@ -92,7 +92,9 @@ fn options_of<'a, R: Clock + Env + AllocGlobal + Files<File = File> + Eprint + C
     rt: &R,
     alloc: Global,
     words: &'a [String],
-) -> Result<Options<'a>, ExitCode> {
+) -> Result<Options<'a>, ExitCode>
+    ensures few { IfOk result (λ options. length options.paths.items ≤ MAX_UNITS) }
+{
     match command_line::read(alloc, words) {
         Ok(options) => Ok(options),
         Err(fault) => {
@@ -107,7 +109,9 @@ fn options_of<'a, R: Clock + Env + AllocGlobal + Files<File = File> + Eprint + C
 fn asked<
     'a,
     R: Clock + Env + AllocGlobal + Files<File = File> + Input + Print + Eprint + Clone + Drop,
->(rt: &R, alloc: Global, words: &'a [String]) -> Result<(Options<'a>, Settings), ExitCode> {
+>(rt: &R, alloc: Global, words: &'a [String]) -> Result<(Options<'a>, Settings), ExitCode>
+    ensures few { IfOk result (λ found. length found.0.paths.items ≤ MAX_UNITS) }
+{
     if told::tells(rt, words) {
         return Err(ExitCode::SUCCESS);
     }
