@@ -4,6 +4,7 @@
 #
 #   ./tests.sh                 all crates
 #   ./tests.sh test_parts      one crate
+#   ./tests.sh test_parts --only negotiation     those of its tests whose names have this word
 if ! command -v python3 > /dev/null; then
     echo 'tests.sh wants python3' >&2
     exit 1
