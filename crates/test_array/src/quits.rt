@@ -3,7 +3,6 @@ ghost use Rattle.std.specs.Prelude.{◌≤◌, length};
 ghost use Rattle.unit_history.specs.Naming.{IsNamed};
 
 use crate::ends::must;
-use crate::memory::new_unit;
 use array::{Operated, console};
 use array_units::Units;
 use block_file::{Blocks, FusedBlocks, KeepOpener, MemBlocks, Opener};
@@ -16,6 +15,7 @@ use std::process::Abort;
 use std::sync::Wait;
 use std::test::Fail;
 use std::time::Clock;
+use test_memory::new_unit;
 use unit_history::{NewUnit, Opened};
 use unit_sequence::Namings;
 
