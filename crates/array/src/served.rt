@@ -6,13 +6,12 @@ ghost use Rattle.portal.specs.Lanes.{AreLanesOf};
 ghost use Rattle.scsi_types.specs.declared.names.Group.TheVariants.{One, Two};
 ghost use Rattle.unit_history.specs.Naming.{IsNamed};
 
-use crate::administered::AdministeredServer;
 use crate::disks::OpenArray;
-use crate::operated::Operated;
 use crate::portals::{self, Portal, Ports};
 use array_administration::{
     Administration, Operations, Sockets, answer, console, control_path, open,
 };
+use array_operations::{AdministeredServer, Operated};
 use array_units::Units;
 use block_file::{Blocks, Opener};
 use command_line::{Fault, MAX_UNITS, Options};

@@ -1,5 +1,6 @@
 //! An array as its console sees it.
-use array::{Operated, console};
+use array_administration::console;
+use array_operations::Operated;
 use block_file::{Blocks, Opener};
 use event_log::Log;
 use portal::Controllers;

@@ -31,14 +31,8 @@ fn operated<'a, R: Wait + Clock, B: Blocks, F: Blocks, O: Opener<B>, N: Namings<
 
 /// The server of an array, as what administers it asks. Several threads share it.
 #[derive(Drop)]
-pub(crate) struct AdministeredServer<
-    B: Blocks,
-    F: Blocks,
-    O: Opener<B>,
-    N: Namings<Opened>,
-    G: Drop,
-> {
-    pub(crate) server: Arc<Server<Controllers<B, F, O, N>, G>, Global>,
+pub struct AdministeredServer<B: Blocks, F: Blocks, O: Opener<B>, N: Namings<Opened>, G: Drop> {
+    pub server: Arc<Server<Controllers<B, F, O, N>, G>, Global>,
 }
 
 impl<B: Blocks, F: Blocks, O: Opener<B>, N: Namings<Opened>, G: Drop> Administered
