@@ -5,4 +5,5 @@
 #
 #   ./wrong-bodies.sh            all crates
 #   ./wrong-bodies.sh session    one crate
+#   ./wrong-bodies.sh --list     tries none: lists all, also those of the gate, and what refuses each
 cd "$(dirname "$0")" && exec python3 tools/wrong_bodies.py "$@"

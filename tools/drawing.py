@@ -21,7 +21,7 @@ Messages go from one lane to another, from the top to the bottom:
 
 Ends with status 1 where a text is too long for its place.
 
-usage: tools/drawing.py TEXT > FILE.svg         docs/NAME.svg is made of tools/drawings/NAME.txt
+usage: tools/drawing.py TEXT > FILE.svg         tools/drawings.py makes docs/NAME.svg of each tools/drawings/NAME.txt
 """
 
 import html

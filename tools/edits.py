@@ -16,11 +16,14 @@ class Edit:
 
     def __init__(self, crate, file):
         self.crate, self.name, self.parts = crate, os.path.basename(file).removesuffix(".edit"), []
+        self.refused_by = ""
         path = within = old = None
         with open(file, encoding="utf-8") as lines:
             for line in lines:
                 word, _, text = line.rstrip("\n").partition(": ")
-                if word == "file":
+                if word == "refused by":
+                    self.refused_by = text
+                elif word == "file":
                     path, within = text, None
                 elif word == "in":
                     within = text

@@ -153,14 +153,15 @@ def is_program(crate):
     return os.path.isfile(f"{TOP}/crates/{crate}/src/main.rt")
 
 
-def run_tests(trials, crate, room):
+def run_tests(trials, crate, room, only):
     program = f"{room}/tests"
     ended = build(trials, crate, ["--test", "--seconds", str(SECONDS)], OF_TESTS, program)
     if not ended:
         where = f"{room}/where"
         os.mkdir(where)
         env = {"PATH": os.environ["PATH"], "HOME": where, "TMPDIR": where}
-        ended = trials.call([f"{KIT}/bin/rattle-test", "--seconds", str(SECONDS), program], cwd=where, env=env)
+        words = ["--seconds", str(SECONDS), *(["--filter", only] if only else [])]
+        ended = trials.call([f"{KIT}/bin/rattle-test", *words, program], cwd=where, env=env)
     status, text = ended[0], (ended[1] + ended[2]).decode(errors="replace")
     counted = re.search(r"^test result: \w+\. (\d+) passed; (\d+) failed", text, re.M)
     passed, failed = map(int, counted.groups()) if counted else (0, 0)
@@ -191,18 +192,22 @@ def run_program(trials, crate, room):
     return Result(0, 1, said.decode(errors="replace") + told)
 
 
-def run_crate(trials, crate):
+def run_crate(trials, crate, only):
     began, result = time.monotonic(), Result(0, 0)
     room = tempfile.mkdtemp(dir=trials.room)
     if tests_of(crate):
-        result = result.and_of(run_tests(trials, crate, room))
-    if is_program(crate):
+        result = result.and_of(run_tests(trials, crate, room, only))
+    if is_program(crate) and not only:
         result = result.and_of(run_program(trials, crate, room))
     shutil.rmtree(room)
     return crate, result, time.monotonic() - began
 
 
 def run_all(trials, names):
+    """Runs the tests of these crates, or of all; behind --only stands a word of the names of those that are wanted."""
+    only = None
+    if names[-2:-1] == ["--only"]:
+        names, only = names[:-2], names[-1]
     known = needs()
     wrong = [name for name in names if name not in known or not tests_of(name) and not is_program(name)]
     if wrong:
@@ -212,7 +217,7 @@ def run_all(trials, names):
     crates.sort(key=lambda crate: -len(below([crate], known)) - tests_of(crate))
     total = Result(0, 0)
     with concurrent.futures.ThreadPoolExecutor(len(os.sched_getaffinity(0))) as lanes:
-        for done in concurrent.futures.as_completed([lanes.submit(run_crate, trials, crate) for crate in crates]):
+        for done in concurrent.futures.as_completed([lanes.submit(run_crate, trials, crate, only) for crate in crates]):
             crate, result, seconds = done.result()
             total = total.and_of(result)
             told = f"{result.failed} FAILED, {result.passed} passed" if result.failed else f"{result.passed} passed"

@@ -13,14 +13,17 @@ not, the functions of the edits are asked for with no edit before the rounds: on
 an edit of one that is not named as proved. Before edits are tried by themselves the whole crate is checked then, and must be proved.
 
 An edit is of lines 'file: PATH', 'old: TEXT' and 'new: TEXT', as the gate's are. A line 'in: FUNCTION' before an 'old:' says that the
-text stands once in that function of the file, where it stands elsewhere too.
+text stands once in that function of the file, where it stands elsewhere too. A first line 'refused by: TEXT' is for readers alone: the
+clause that refuses the edit, or a test that does too.
 
 usage: wrong-bodies.sh [--lanes N] [CRATE..]     N checks at a time; without it, as many as processors and memory bear
+       wrong-bodies.sh --list [CRATE..]          tries nothing: lists the edits, also those that the gate tries, and what refuses each
 Prints a line for each edit, and at the end 'N refused, M not refused'; the status is 1 where one was not refused or not tried."""
 
 import argparse
 import collections
 import concurrent.futures
+import glob
 import os
 import queue
 import re
@@ -278,6 +281,15 @@ def last_line(said):
     return (wrong or said.splitlines() or [""])[0][:200]
 
 
+def table_of(crates):
+    """A line for each edit of these crates: who tries it, its name, and what refuses it, where the edit says so."""
+    for crate in crates:
+        for folder, who in (("must-fail", "gate  "), ("wrong-bodies", "beside")):
+            for file in sorted(glob.glob(f"{TOP}/crates/{crate}/{folder}/*.edit")):
+                edit = Edit(crate, file)
+                yield f"{who}  {edit}" + (f": {edit.refused_by}" if edit.refused_by else "")
+
+
 def crates_with_edits():
     return [name for name in needs() if os.path.isdir(f"{TOP}/crates/{name}/wrong-bodies")]
 
@@ -364,8 +376,12 @@ def try_all(crates, room, count):
 def main():
     words = argparse.ArgumentParser(description=__doc__.split("\n\n")[0])
     words.add_argument("--lanes", type=int, default=lanes_that_fit())
+    words.add_argument("--list", action="store_true")
     words.add_argument("crates", nargs="*", metavar="CRATE")
     given = words.parse_args()
+    if given.list:
+        print(*table_of(given.crates or needs()), sep="\n")
+        return
     there = crates_with_edits()
     for name in given.crates:
         if name not in there:
