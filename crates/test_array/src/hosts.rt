@@ -15,6 +15,7 @@ fn obey<R: Abort>(rt: &R, alloc: Global, host: &mut Host, line: &str) -> Result<
     if verb == ">" {
         return host.send(pdu.as_mut_slice());
     }
+    must(rt, verb == "<", line, &"no verb");
     let came = host.receive(alloc)?;
     let is_answer = host.is_answer(came.as_slice(), pdu.as_mut_slice());
     must(rt, is_answer, line, &came);

@@ -70,7 +70,7 @@ fn ends_so<R: Files<File = File> + AllocGlobal + Abort + Copy + Drop>(
         }
     } else if row.word == "close" {
         *kept = None;
-        true
+        row.ends(true)
     } else {
         looks_so(rt, path, row)
     }
@@ -122,7 +122,7 @@ fn looks_so<R: Files<File = File> + AllocGlobal + Abort>(rt: &R, path: &str, row
 // Whether the bytes of a file are those of a row, or so many.
 fn are_those(rt: &impl Abort, alloc: Global, bytes: &[u8], row: &Row) -> bool {
     if row.word == "holds" {
-        bytes == row.bytes(rt, alloc).as_slice()
+        bytes == row.bytes(rt, alloc).as_slice() && row.ends(true)
     } else {
         row.end.parse() == Ok(bytes.len())
     }

@@ -1,5 +1,6 @@
 //! The power is lost: a script comes so far, a crash follows, and a restart.
 use crate::bench::{Bench, Setup};
+use crate::ends::must;
 use crate::rows::Row;
 use crate::run::{make, played};
 use crate::stops::script::{Device, Script, Stop};
@@ -93,7 +94,9 @@ fn lose_by(rt: &impl Abort, alloc: Global, loss: &Loss<'_, '_>) {
     play_up_to(rt, alloc, &mut bench, loss);
     let bench = bench.restart(rt, alloc, loss.setup);
     let record = loss.left(rt, alloc, (Device::Registrations, 0));
-    let mut bench = played(rt, alloc, bench, loss.setup, found(), record);
+    let rows = found();
+    must(rt, !rows.trim().is_empty(), "found", &"a table has rows");
+    let mut bench = played(rt, alloc, bench, loss.setup, rows, record);
     look_at_blocks(rt, alloc, &mut bench, loss);
 }
 
@@ -116,4 +119,5 @@ fn look_at_blocks(rt: &impl Abort, alloc: Global, bench: &mut Bench, loss: &Loss
         make(rt, alloc, bench, loss.setup, &Row { text, n });
         block = block.wrapping_add(1);
     }
+    must(rt, block > 0, "blocks", &"a table has rows");
 }

@@ -127,6 +127,8 @@ fn at_each_call_of_a_device(rt: HostRuntime) {
         each_loses(&rt, rt.alloc(), text);
     }
     let (form, lines) = failing_saves();
+    let has_rows = !lines.trim().is_empty();
+    must(&rt, has_rows, "failing saves", &"a table has rows");
     for parts in lines.lines() {
         let text = filled(rt.alloc(), form, parts).expect(&rt, parts);
         each_loses(&rt, rt.alloc(), text.as_str());
