@@ -4,25 +4,15 @@
 What `rt ci` passes, it keeps by a sum of all that the proof read, and takes again where that sum is the same. It leaves such a library
 without the stamp by which `rt check` knows that it fits the text, so `rt check` would prove it anew. Here rt itself is asked, by the
 calls of `rt ci`, whether it keeps each library for this very text, over the libraries below it as they stand; such a one gets its stamp.
-A library that has a right stamp stays as it is. Where rt has no such calls, none is given, and all are proved.
+A library that has a right stamp stays as it is. Where rt has no such calls (tools/kit.py), none is given, and all are proved.
 
 usage: tools/kept.py TOP CRATE..      of these crates, each behind those that it stands on, prints those whose library stands there now"""
 
-import importlib.machinery
-import importlib.util
 import os
 import shutil
 import sys
 
-
-def rt():
-    """The toolchain's command as a module."""
-    path = os.path.realpath(shutil.which("rt"))
-    sys.path.insert(0, os.path.dirname(path))
-    loader = importlib.machinery.SourceFileLoader("rt", path)
-    found = importlib.util.module_from_spec(importlib.util.spec_from_loader("rt", loader))
-    loader.exec_module(found)
-    return found
+import kit
 
 
 def give(crate, kept):
@@ -39,7 +29,9 @@ def give(crate, kept):
 
 def main():
     os.chdir(sys.argv[1])
-    rt_calls = rt()
+    rt_calls = kit.rt()
+    if kit.told(kit.otherwise_to_keep(rt_calls)):
+        return
     rt_calls.Crate.allowed = rt_calls.handles_of(os.getcwd())
     crates = [it for it in rt_calls.crates_of(os.getcwd()) if it.name in sys.argv[2:] and not it.is_program]
     kept = rt_calls.Kept(crates)

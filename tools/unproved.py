@@ -5,15 +5,15 @@ nothing of the compiler unless something fails.
 `rt try` compiles without proofs, but optimizes nothing: tests that make many sessions then run for minutes. So the module that
 it makes for LLVM is taken from it, and compiled and linked by the toolchain's own programs. In it stay the checks of sums,
 casts, shifts and divisors, at which a run stops; an access out of bounds is not looked for, as `rt try --test` in a crate's
-folder does. Where there is no module to take, tests run by `rt try` alone.
+folder does. Where there is no module to take, tests run by `rt try` alone. What is known here of the toolchain's insides stands in
+tools/kit.py.
 
 usage: tools/unproved.py program FILE        compiles arrayd, and leaves it as FILE
-       tools/unproved.py tests [NAME..]      runs the tests of these crates, or of all, and the stored run of each program;
-                                             the last line is 'N passed, M failed'
+       tools/unproved.py tests [NAME..] [--only WORD]    runs the tests of these crates, or of all, and the stored run of each
+                                             program, or those tests whose names have the word; the last line is 'N passed, M failed'
 """
 
 import concurrent.futures
-import glob
 import os
 import re
 import shutil
@@ -23,20 +23,13 @@ import sys
 import tempfile
 import time
 
+import kit
 from proved import TOP, below, needs
 
-KIT = os.path.dirname(os.path.dirname(os.path.realpath(shutil.which("rt") or "rt")))
-# As `rt try` itself has a module compiled, but for its search for bad accesses.
-CLANG = [f"{KIT}/toolchain/bin/clang", "--target=x86_64-unknown-linux-gnu", f"--sysroot={KIT}/toolchain", "-march=x86-64"]
-CLANG += ["-ffunction-sections", "-fdata-sections", "--no-default-config", "-fPIE", "-Werror", "-c", "-x", "ir"]
-for word in ("no-trap-after-noreturn", "trap-unreachable", "no-x86-call-frame-opt", "disable-machine-licm", "disable-postra-machine-licm"):
-    CLANG += ["-mllvm", f"-{word}"]
-LINK = [f"{KIT}/bin/rattle-link", "--target", "x86_64-unknown-linux-gnu", "--toolchain", f"{KIT}/toolchain"]
-LIBRARIES = [f"{KIT}/c/libos_c.a", f"{KIT}/c/liblibc_c.a"]
 # A program is there soonest with nothing optimized; tests make thousands of sessions, whose buffers a slow program fills slowly.
 OF_PROGRAM, OF_TESTS = "-O0", "-O1"
-# How often is looked for the module, in seconds, and how many bytes it has at least: `rt try` first compiles a trifle.
-LOOK, LEAST = 0.05, 100_000
+# How often is looked for the module, in seconds.
+LOOK = 0.05
 # What one test or run may take, in seconds.
 SECONDS = 120
 
@@ -99,22 +92,22 @@ def build(trials, crate, words, level, to):
     it does where the crate does not compile."""
     work, module = f"{to}.work", f"{to}.bc"
 
-    # A module is whole once its object file is begun.
     def take():
-        for begun in glob.glob(f"{work}/*/*/module-*.tmp"):
-            found = f"{os.path.dirname(begun)}/module.bc"
-            try:
-                if os.path.getsize(found) > LEAST:
-                    os.link(found, module)
-                    return True
-            except FileNotFoundError:
-                pass
-        return False
+        found = kit.module_in(work)
+        try:
+            if found:
+                os.link(found, module)
+        except FileNotFoundError:
+            return False
+        return bool(found)
 
     ended = trials.trial(crate, words, work, take)
     if not os.path.isfile(module):
+        if ended[0] == 0:
+            kit.told([f"no module was found where `rt try` compiled {crate}"])
         return ended
-    status = trials.call([*CLANG, level, module, "-o", f"{to}.o"])[0] or trials.call([*LINK, "-o", to, f"{to}.o", *LIBRARIES])[0]
+    status = trials.call([*kit.CLANG, level, module, "-o", f"{to}.o"])[0]
+    status = status or trials.call([*kit.LINK, "-o", to, f"{to}.o", *kit.LIBRARIES])[0]
     return trials.trial(crate, words, work) if status else None
 
 
@@ -161,7 +154,7 @@ def run_tests(trials, crate, room, only):
         os.mkdir(where)
         env = {"PATH": os.environ["PATH"], "HOME": where, "TMPDIR": where}
         words = ["--seconds", str(SECONDS), *(["--filter", only] if only else [])]
-        ended = trials.call([f"{KIT}/bin/rattle-test", *words, program], cwd=where, env=env)
+        ended = trials.call([kit.TEST, *words, program], cwd=where, env=env)
     status, text = ended[0], (ended[1] + ended[2]).decode(errors="replace")
     counted = re.search(r"^test result: \w+\. (\d+) passed; (\d+) failed", text, re.M)
     passed, failed = map(int, counted.groups()) if counted else (0, 0)
@@ -232,6 +225,7 @@ def main():
         sys.exit(__doc__)
     if not shutil.which("rt"):
         sys.exit("the toolchain's command rt is not in PATH")
+    kit.told(kit.otherwise_to_compile())
     # the program gets its second name in the file system of its first
     trials = Trials(tempfile.mkdtemp(dir=os.path.dirname(os.path.abspath(sys.argv[2])) if is_one else None))
 
