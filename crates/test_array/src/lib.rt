@@ -1,11 +1,14 @@
 //! Tests of the array and of the program that serves it. Over real files, through the portals of both controllers (`whole`); of what
-//! needs no disk: words, the texts of faults, the console, and the log (`words`, `lines`, `log_lines`, `log_writer`). Over the loopback,
+//! needs no disk: words, the texts of faults, the console, the log, and what is counted (`words`, `lines`, `log_lines`, `log_writer`,
+//! `counted`). Over the loopback,
 //! through portals that a test opens over units in memory or in its files (`portals`). Without a portal, by what both controllers
 //! call: units that threads share, desks, moves, and the pure world (`controllers`).
 #![tactic(auto)]
 
 #[cfg(test)]
 mod controllers;
+#[cfg(test)]
+mod counted;
 #[cfg(test)]
 mod ends;
 #[cfg(test)]
