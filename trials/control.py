@@ -296,7 +296,7 @@ def beside_the_window(folder):
         session = host()
         session.read(0, 0, 1)
         with socket.create_connection(("127.0.0.1", at)) as peer:
-            peer.sendall(b"GET /status HTTP/1.1\r\nHost: h\r\n\r\n")
+            peer.sendall(b"GET /status HTTP/1.1\r\nHost: localhost\r\n\r\n")
             view = json.loads(all_of(peer).partition(b"\r\n\r\n")[2])["sessions"][0]
         told = sessions(folder)[0x400001370000]
         is_so("the same", [str(view[name]) for name in ("tsih", "controller", "kind", "isid", "peer", "portal", "since", "commands",

@@ -77,7 +77,7 @@ fn say_session<W: Write>(writer: &mut W, session: &SessionView) -> io::Result<()
     let (since, commands) = (session.since, session.commands);
     let last = session.last_command.unwrap_or("none");
     write!(writer, "since {since} commands {commands} last {last} ")?;
-    let initiator = session.initiator.as_str();
+    let initiator = session.spelled.as_str();
     writeln!(writer, "initiator \"{initiator}\"")
 }
 
@@ -89,7 +89,7 @@ fn say_key<W: Write>(writer: &mut W, registration: &Registration) -> io::Result<
         writer,
         "key {key} controller {controller} isid {isid} holds {kind} "
     )?;
-    let initiator = registration.initiator.as_str();
+    let initiator = registration.spelled.as_str();
     writeln!(writer, "initiator \"{initiator}\"")
 }
 

@@ -35,7 +35,8 @@ fn registration_of(
     let (nexus, key) = (&registrant.nexus, registrant.key);
     let (isid, kind) = (nexus.isid(), held_type(registrant, reservation));
     Ok(Registration {
-        initiator: window::spelled(alloc, nexus.name())?,
+        initiator: window::named(alloc, nexus.name())?,
+        spelled: window::spelled(alloc, nexus.name())?,
         isid: format!(in alloc; "0x{isid:x}")?,
         key: format!(in alloc; "0x{key:x}")?,
         controller: u64::from(nexus.group().number()),

@@ -190,6 +190,21 @@ impl<R: Clock + Wait + Drop, F: LastingFile> FilePreparer<R, F> {
         }
     }
 
+    // How many writes have failed.
+    fn failed_writes(&self) -> u64 {
+        match &self.file_log {
+            Some(file_log) => file_log.failed_writes(),
+            None => 0,
+        }
+    }
+
+    // Tells that a flush which began when so many writes had failed has gone well.
+    fn tell_flushed(&self, failed_writes: u64) {
+        if let Some(file_log) = &self.file_log {
+            file_log.flushed(failed_writes);
+        }
+    }
+
     // Tells that a flush failed, once.
     fn tell(&self, fault: FlushFault) {
         if let (Some(file_log), FlushFault::Failed(error)) = (&self.file_log, fault) {
@@ -429,8 +444,12 @@ impl<R: Clock + Wait + Drop, F: LastingFile> Preparer for FilePreparer<R, F> {
         let Some(flushes) = &self.flushes else {
             return false;
         };
+        let failed_writes = self.failed_writes();
         match flushes.flush(&self.rt, self.node) {
-            Ok(()) => true,
+            Ok(()) => {
+                self.tell_flushed(failed_writes);
+                true
+            }
             Err(fault) => {
                 self.tell(fault);
                 false

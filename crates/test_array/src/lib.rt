@@ -1,7 +1,10 @@
 //! Tests of the array and of the program that serves it. Over real files, through the portals of both controllers (`whole`); of what
-//! needs no disk: words, the texts of faults, the console, and the log (`words`, `lines`, `log_lines`, `log_writer`).
+//! needs no disk: words, the texts of faults, the console, the log, and what is counted (`words`, `lines`, `log_lines`, `log_writer`,
+//! `counted`).
 #![tactic(auto)]
 
+#[cfg(test)]
+mod counted;
 #[cfg(test)]
 mod ends;
 #[cfg(test)]
