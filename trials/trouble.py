@@ -8,6 +8,7 @@ Some want root, a loop device or a file system of their own, and say so where th
 """
 
 import contextlib
+import errno
 import os
 import shutil
 import socket
@@ -19,6 +20,7 @@ import time
 from cases import (
     Cases, Mounted, NotHere, end_of, fill, flush, is_so, lines, login, read, refusal, root, run, write,
 )
+from failing import Failing, is_there
 from free_port import free_port
 from initiator import BUSY, GOOD, RESERVATION_CONFLICT, Closed, Session, discover
 from running import PORT, TARGET, Array, Wrong, ended, made
@@ -114,6 +116,39 @@ def registration_file_that_cannot_be_made(folder):
     os.chown(disk, NOBODY, NOBODY)
     os.chmod(folder, 0o755)
     is_so("in a folder of root's", ended([disk], user=NOBODY), (1, "arrayd: cannot use registration file 0"))
+
+
+@case
+def files_where_a_registration_file_is_begun(folder):
+    """What lies there is another unit's disk perhaps, or what an earlier stop left, and keeps its bytes."""
+    disk, other, kept = (made(f"{folder}/{name}", 16) for name in ("d", "d.reg.new", "kept"))
+    os.symlink(kept, other + ".reg.new")
+    for path in (other, kept):
+        with open(path, "r+b") as file:
+            file.write(b"mine")
+    with Array([disk, other]) as array:
+        array.quit()
+    for path in (other, kept):
+        with open(path, "rb") as file:
+            is_so(path, (file.read(4), os.path.getsize(path)), (b"mine", 16 * 512))
+    is_so("nothing else is left", sorted(os.listdir(folder)), ["d", "d.reg", "d.reg.new", "d.reg.new.reg", "d.reg.new.reg.new", "kept"])
+    for number in ("", *range(1, 10)):
+        os.symlink("none", f"{kept}.reg.new{number}")
+    is_so("where all names are taken", ended([kept]), (1, "arrayd: cannot use registration file 0"))
+    is_so("none is made", os.path.exists(f"{kept}.reg"), False)
+
+
+@case
+def registration_file_whose_name_may_not_last(folder):
+    """A start that a kill cut off may have left it so: each start flushes the folder."""
+    if not is_there():
+        raise NotHere("no C compiler")
+    disk, failing = made(folder + "/disk", 16), Failing(folder)
+    for kind in ("a first start", "a second one"):
+        failing.let("fsync", errno.EIO, behind=1 if kind == "a first start" else 0)
+        is_so(kind, ended([disk], more=failing.environment), (1, "arrayd: cannot use registration file 0"))
+    with Array([disk], more=failing.environment) as array:
+        array.quit()
 
 
 @case

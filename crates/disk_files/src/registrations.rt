@@ -1,6 +1,6 @@
 //! The registration file of a unit.
 ghost use Rattle.std.specs.Prelude.{◌≡◌, IfOk, OnOk};
-ghost use Rattle.disk_files.specs.System.{name_lasts};
+ghost use Rattle.disk_files.specs.System.{is_named, name_lasts};
 
 use crate::system::{give_name, make_name_last, number_of};
 use crate::{
@@ -12,8 +12,12 @@ use block_file::{BLOCK_LENGTH, Blocks};
 use registrants::Record;
 use std::alloc::{AllocError, Global};
 use std::fs::{self, File, OpenFile};
+use std::io::ErrorKind;
 use std::os::unix::fs::MetadataExt;
 use std::rt::Files;
+
+/// Under so many names is tried to begin a registration file.
+const MOST_BEGUN: u8 = 10;
 
 /// A registration file: its blocks, the record that it holds, and its lock, which has to live as long as the unit does.
 #[derive(Drop)]
@@ -37,7 +41,7 @@ pub fn open_registrations<R: Files<File = File> + Drop>(
     let Ok(path) = joined(alloc, disk, ".reg") else {
         return Err(RegistrationsFault::NoMemory);
     };
-    let mut blocks = match opened_or_made(&rt, alloc, path.as_str()) {
+    let mut blocks = match opened_or_made(&rt, alloc, folder_of(path.as_str()), path.as_str()) {
         Ok(blocks) => blocks,
         Err(fault) => return Err(fault),
     };
@@ -116,65 +120,112 @@ fn joined(alloc: Global, name: &str, end: &str) -> Result<String, AllocError> {
     Ok(path)
 }
 
+// The name under which a registration file is begun that is to have this path, where so many such names are taken.
+fn new_name(alloc: Global, path: &str, taken: u8) -> Result<String, AllocError> {
+    if taken == 0 {
+        joined(alloc, path, ".new")
+    } else {
+        format!(in alloc; "{path}.new{taken}")
+    }
+}
+
 // The file's blocks, where it is there, or else of one that was made. A link to a file that is not there is left as it is: what it leads
-// to may be there later, with the registrations of before.
+// to may be there later, with the registrations of before. The name lasts: a stop may have come between the making of the file and the
+// flush of its folder.
 fn opened_or_made<R: Files<File = File>>(
     rt: &R,
     alloc: Global,
+    folder: &str,
     path: &str,
-) -> Result<FileBlocks<SystemFile>, RegistrationsFault> {
+) -> Result<FileBlocks<SystemFile>, RegistrationsFault>
+    ensures { OnOk result (name_lasts folder.now path.now) }
+{
     match FileBlocks::open(rt, path) {
-        Ok(blocks) => return Ok(blocks),
+        Ok(blocks) => return lasting(rt, folder, path, blocks),
         Err(FileFault::NotThere) => {}
         Err(fault) => return Err(RegistrationsFault::File(fault)),
     }
     if fs::symlink_metadata(rt, path).is_ok() {
         return Err(RegistrationsFault::File(FileFault::NotThere));
     }
-    let Ok(new) = joined(alloc, path, ".new") else {
-        return Err(RegistrationsFault::NoMemory);
-    };
-    if let Err(error) = made(rt, folder_of(path), path, new.as_str()) {
-        return Err(RegistrationsFault::NotMade(error));
-    }
+    made(rt, alloc, path)?;
     match FileBlocks::open(rt, path) {
-        Ok(blocks) => Ok(blocks),
+        Ok(blocks) => lasting(rt, folder, path, blocks),
         Err(fault) => Err(RegistrationsFault::File(fault)),
     }
 }
 
-// Makes a registration file of nothing in a folder under another name, and gives it its own when it is whole, so that a stop leaves
-// none or a whole one. That it has this name lasts. Else the error of the system.
-fn made<R: Files<File = File>>(rt: &R, folder: &str, path: &str, new: &str) -> Result<(), u32>
+// The blocks of the file that has this name in a folder, once the name lasts.
+fn lasting<R: Files<File = File>>(
+    rt: &R,
+    folder: &str,
+    path: &str,
+    blocks: FileBlocks<SystemFile>,
+) -> Result<FileBlocks<SystemFile>, RegistrationsFault>
+    requires { is_named path.now }
     ensures { OnOk result (name_lasts folder.now path.now) }
 {
-    let file = begun(rt, new)?;
-    if !is_formatted(file) {
-        return Err(0);
-    }
-    give_name(rt, new, path)?;
-    if make_name_last(rt, folder, path) {
-        Ok(())
-    } else {
-        Err(0)
+    match make_name_last(rt, folder, path) {
+        Ok(()) => Ok(blocks),
+        Err(error) => Err(RegistrationsFault::NotMade(error)),
     }
 }
 
-// A file of zeros under this name, in place of what an earlier stop may have left there.
-fn begun<R: Files<File = File>>(rt: &R, new: &str) -> Result<File, u32> {
-    let opened = File::options()
-        .read(true)
-        .write(true)
-        .create(true)
-        .truncate(true)
-        .open(rt, new);
-    match opened {
-        Ok(file) => match file.set_len(BLOCK_LENGTH as u64 * u64::from(FILE_BLOCKS)) {
-            Ok(()) => Ok(file),
-            Err(e) => Err(number_of(&e)),
-        },
-        Err(e) => Err(number_of(&e)),
+// Makes a registration file of nothing under another name, and gives it its own when it is whole, so that a stop leaves none or a whole
+// one.
+fn made<R: Files<File = File>>(
+    rt: &R,
+    alloc: Global,
+    path: &str,
+) -> Result<(), RegistrationsFault> {
+    let (file, new) = begun(rt, alloc, path)?;
+    match named(rt, file, new.as_str(), path) {
+        Ok(()) => Ok(()),
+        Err(error) => {
+            let _ = fs::remove_file(rt, new.as_str());
+            Err(RegistrationsFault::NotMade(error))
+        }
     }
+}
+
+// Writes a registration file of nothing into an empty file, and gives it this path; else the error of the system.
+fn named<R: Files<File = File>>(rt: &R, file: File, new: &str, path: &str) -> Result<(), u32> {
+    match file.set_len(BLOCK_LENGTH as u64 * u64::from(FILE_BLOCKS)) {
+        Ok(()) => {}
+        Err(e) => return Err(number_of(&e)),
+    }
+    if !is_formatted(file) {
+        return Err(0);
+    }
+    give_name(rt, new, path)
+}
+
+// An empty file, and its name, which nothing had: this path with `.new` behind it, or a number behind that. What has such a name is the
+// disk of a unit perhaps, or what an earlier stop left; it stays as it is.
+fn begun<R: Files<File = File>>(
+    rt: &R,
+    alloc: Global,
+    path: &str,
+) -> Result<(File, String), RegistrationsFault> {
+    let mut fault = RegistrationsFault::NotMade(0);
+    for number in 0..MOST_BEGUN {
+        let Ok(new) = new_name(alloc, path, number) else {
+            return Err(RegistrationsFault::NoMemory);
+        };
+        match File::options()
+            .read(true)
+            .write(true)
+            .create_new(true)
+            .open(rt, new.as_str())
+        {
+            Ok(file) => return Ok((file, new)),
+            Err(e) if e.kind() == ErrorKind::AlreadyExists => {
+                fault = RegistrationsFault::NotMade(number_of(&e));
+            }
+            Err(e) => return Err(RegistrationsFault::NotMade(number_of(&e))),
+        }
+    }
+    Err(fault)
 }
 
 // Whether a registration file of nothing was written there.

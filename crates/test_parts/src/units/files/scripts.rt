@@ -141,10 +141,31 @@ registrations disk 33; APTPL 22
 length disk.reg; 34304
 length disk.reg.new; none
 
-what a stop left of a file is made anew
+what lies where a file is begun is left as it is, and the file has its name all the same
 put disk.reg.new "half of it"
-registrations disk; no APTPL
-length disk.reg.new; none
+symlink disk.reg.new disk.reg.new1
+link disk.reg.new disk.reg.new2
+registrations disk 11; no APTPL
+holds disk.reg.new "half of it"
+length disk.reg; 34304
+length disk.reg.new3; none
+registrations disk; APTPL 11
+length disk.reg.new3; none
+
+where all names are taken none is made
+put disk.reg.new "1"
+link disk.reg.new disk.reg.new1
+link disk.reg.new disk.reg.new2
+link disk.reg.new disk.reg.new3
+link disk.reg.new disk.reg.new4
+link disk.reg.new disk.reg.new5
+link disk.reg.new disk.reg.new6
+link disk.reg.new disk.reg.new7
+link disk.reg.new disk.reg.new8
+link disk.reg.new disk.reg.new9
+registrations disk; NotMade(17)
+holds disk.reg.new "1"
+length disk.reg; none
 
 a file that is no registration file stays
 put disk.reg 34304*00
