@@ -239,8 +239,17 @@ def paths(folder):
         is_so("of another array", start(f"{folder}/control"), none)
         is_so("which has it still", asked(folder, "version"), ["arrayd 1.0.0"])
         array.kill()
-    is_so("of one that was killed", start(f"{folder}/control"), none)
-    os.remove(f"{folder}/control")
+    with array_in(folder) as array:
+        is_so("of one that was killed", asked(folder, "version"), ["arrayd 1.0.0"])
+        array.process.terminate()
+        array.process.wait(20)
+    with array_in(folder) as array:
+        is_so("of one that SIGTERM ended", asked(folder, "version"), ["arrayd 1.0.0"])
+        array.quit()
+    os.mkfifo(f"{folder}/fifo")
+    os.symlink(f"{folder}/none", f"{folder}/link")
+    is_so("no socket", (start(f"{folder}/fifo"), start(f"{folder}/link")), (none, none))
+    is_so("untouched too", (stat.S_ISFIFO(os.stat(f"{folder}/fifo").st_mode), os.readlink(f"{folder}/link")), (True, f"{folder}/none"))
     with socket.create_server(("127.0.0.1", PORT)):
         is_so("a start that fails", start(f"{folder}/control"), (1, "arrayd: cannot listen at controller 1 portal 0"))
     is_so("leaves nothing", os.path.exists(f"{folder}/control"), False)

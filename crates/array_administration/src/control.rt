@@ -9,7 +9,7 @@ use std::alloc::{AllocError, Global};
 use std::fs::{self, File, Permissions};
 use std::io::{self, BufRead, BufReader, ErrorKind, Read, Write};
 use std::net::Net;
-use std::os::unix::fs::PermissionsExt;
+use std::os::unix::fs::{FileTypeExt, PermissionsExt};
 use std::os::unix::net::{UnixListener, UnixStream};
 use std::rt::Files;
 use std::sync::{Arc, Wait};
@@ -32,8 +32,8 @@ const REST: u64 = 100;
 /// What the stack of its thread takes.
 const STACK: usize = 256 * 1024;
 
-/// How often is looked whether somebody connected before the socket was its owner's alone.
-const STRANGERS: usize = 4096;
+/// More connections than wait at any socket, which is the most that is looked for before the socket was its owner's alone.
+const STRANGERS: u32 = 1 << 24;
 
 const HELP: &str = "status      a line for each unit
 sessions    a line for each session that is logged in
@@ -206,17 +206,17 @@ impl<R: Wait + Clock + Drop, A: Administered + Drop> ControlSocket<R, A> {
     }
 }
 
-// Closes the connections that came before the socket was its owner's alone.
+// Closes the connections that came before the socket was its owner's alone: all of them, since no other one comes.
 fn turn_strangers_away(listener: &UnixListener) -> io::Result<()> {
     listener.set_nonblocking(true)?;
     for _ in 0..STRANGERS {
         match listener.accept() {
             Ok(_) => {}
-            Err(e) if e.kind() == ErrorKind::WouldBlock => break,
+            Err(e) if e.kind() == ErrorKind::WouldBlock => return listener.set_nonblocking(false),
             Err(e) => return Err(e),
         }
     }
-    listener.set_nonblocking(false)
+    Err(io::Error::from(ErrorKind::TimedOut))
 }
 
 // What made no control socket, as the log is told it: a path that none can have is a wrong word.
@@ -230,9 +230,34 @@ fn fault_of<R: Clock>(rt: &R, log: &Log, path: &str, error: &io::Error) -> Fault
     Fault::CannotControl
 }
 
-// The control socket at this path, where nothing is yet. Only its owner may connect.
+// Whether a socket lies at this path at which nobody listens, as an array leaves one that was killed.
+fn is_left<R: Files<File = File> + Net>(rt: &R, path: &str) -> bool {
+    let Ok(metadata) = fs::symlink_metadata(rt, path) else {
+        return false;
+    };
+    if !metadata.file_type().is_socket() {
+        return false;
+    }
+    match UnixStream::connect(rt, path) {
+        Ok(_) => false,
+        Err(e) => e.kind() == ErrorKind::ConnectionRefused,
+    }
+}
+
+// A socket that is bound to this path, where nothing is, or one at which nobody listens.
+fn bound<R: Files<File = File> + Net>(rt: &R, path: &str) -> io::Result<UnixListener> {
+    match UnixListener::bind(rt, path) {
+        Err(e) if e.kind() == ErrorKind::AddrInUse && is_left(rt, path) => {
+            fs::remove_file(rt, path)?;
+            UnixListener::bind(rt, path)
+        }
+        end => end,
+    }
+}
+
+// The control socket at this path. Only its owner may connect.
 fn made<R: Files<File = File> + Net>(rt: &R, path: &str) -> io::Result<UnixListener> {
-    let listener = UnixListener::bind(rt, path)?;
+    let listener = bound(rt, path)?;
     let is_its_own = fs::set_permissions(rt, path, Permissions::from_mode(OWNER_ALONE)).and_then(
         |()| turn_strangers_away(&listener),
     );
