@@ -29,6 +29,11 @@ const MOST: u64 = 65536;
 /// So many milliseconds the accept loop rests where no connection could be accepted.
 const REST: u64 = 100;
 
+/// So many milliseconds lie between two looks whether a session is over that was ended, and so often is looked.
+const LOOK: u64 = 5;
+
+const LOOKS: u32 = 1000;
+
 /// What the stack of its thread takes.
 const STACK: usize = 256 * 1024;
 
@@ -38,7 +43,7 @@ const STRANGERS: u32 = 1 << 24;
 const HELP: &str = "status      a line for each unit
 sessions    a line for each session that is logged in
 keys U      a line for each registration of a unit
-end TSIH    closes the connection of a session
+end TSIH    ends a session
 up 1, up 2  gives a controller the units back that prefer it
 version     the version of the program
 help        these lines
@@ -93,15 +98,6 @@ fn say_key<W: Write>(writer: &mut W, registration: &Registration) -> io::Result<
     writeln!(writer, "initiator \"{initiator}\"")
 }
 
-// Writes what became of a session that was to end.
-fn say_end<W: Write>(writer: &mut W, is_ended: bool) -> io::Result<()> {
-    if is_ended {
-        writeln!(writer, "ended")
-    } else {
-        writeln!(writer, "no session")
-    }
-}
-
 impl<R: Wait + Clock + Drop, A: Administered + Drop> ControlSocket<R, A> {
     // The sessions that are logged in.
     fn sessions(&self, alloc: Global) -> Result<Vec<SessionView>, AllocError> {
@@ -125,6 +121,28 @@ impl<R: Wait + Clock + Drop, A: Administered + Drop> ControlSocket<R, A> {
     fn say_version<W: Write>(&self, writer: &mut W) -> io::Result<()> {
         let version = self.version;
         writeln!(writer, "arrayd {version}")
+    }
+
+    // Whether a session is over, for which it waits for a while: from then on no command of it reaches a unit.
+    fn is_over(&self, tsih: u16) -> bool {
+        for _ in 0..LOOKS {
+            if !self.array.lives(&self.rt, tsih) {
+                return true;
+            }
+            thread::sleep(&self.rt, Duration::from_millis(LOOK));
+        }
+        false
+    }
+
+    // Ends a session, and writes what became of it.
+    fn say_end<W: Write>(&self, writer: &mut W, tsih: u16) -> io::Result<()> {
+        if !self.array.shut(&self.rt, tsih) {
+            writeln!(writer, "no session")
+        } else if self.is_over(tsih) {
+            writeln!(writer, "ended")
+        } else {
+            writeln!(writer, "ending")
+        }
     }
 
     fn say_up<W: Write>(&self, writer: &mut W, controller: Group) -> io::Result<()> {
@@ -159,8 +177,7 @@ impl<R: Wait + Clock + Drop, A: Administered + Drop> ControlSocket<R, A> {
         if let Some(number) = text.strip_prefix("end ")
             && let Ok(tsih) = number.parse::<u16>()
         {
-            let is_ended = self.array.shut(&self.rt, tsih);
-            return say_end(writer, is_ended);
+            return self.say_end(writer, tsih);
         }
         writeln!(writer, "?")
     }
