@@ -18,12 +18,12 @@ import threading
 import time
 
 from cases import (
-    Cases, Mounted, NotHere, end_of, fill, flush, is_so, lines, login, read, refusal, root, run, write,
+    ISID, Cases, Mounted, NotHere, end_of, fill, flush, is_so, lines, login, read, refusal, root, run, write,
 )
 from failing import Failing, is_there
 from free_port import free_port
 from initiator import BUSY, GOOD, RESERVATION_CONFLICT, Closed, Session, discover
-from running import PORT, TARGET, Array, Wrong, ended, made
+from running import PORT, TARGET, Array, Wrong, ended, library, made
 
 NOBODY = 65534
 CASES = Cases()
@@ -347,6 +347,51 @@ def two_hosts_of_one_name(folder):
             raise Wrong("the first goes on")
         except (Closed, ConnectionError):
             pass
+
+
+@case
+def login_that_takes_its_time(folder):
+    """A login has thirty seconds, however often bytes come."""
+    with Array([made(folder + "/disk", 16)]) as array, socket.create_connection(array.portal(1)) as peer:
+        began = time.monotonic()
+        with contextlib.suppress(ConnectionError):
+            while time.monotonic() - began < 60:
+                peer.sendall(b"\x43")
+                peer.settimeout(1)
+                with contextlib.suppress(TimeoutError):
+                    if not peer.recv(1):
+                        break
+        is_so("its connection is closed", 29 < time.monotonic() - began < 34, True)
+        is_so("another one logs in", write(login()), GOOD)
+        array.quit()
+
+
+class GivenUp(Session):
+    """A login whose connection ends behind its last request."""
+
+    def receive(self):
+        if self.tag == 2:
+            raise Closed()
+        return super().receive()
+
+
+@case
+def login_that_was_given_up(folder):
+    """It waits for its turn, and does not end the session that lives by then."""
+    slow = {"LD_PRELOAD": library("bench/slow_disk.c", folder), "SLOW_DISK": folder, "SLOW_FLUSH": "3000000"}
+    with Array([made(folder + "/disk", 16)], more=slow) as array:
+        living, other = login(number=5), login(number=6)
+        other.submit(0, [0x28, 8, 0, 0, 0, 0, 0, 0, 1], expected=512)
+        time.sleep(0.5)
+        waits = threading.Thread(target=login, kwargs={"number": 7})
+        waits.start()
+        time.sleep(0.5)
+        with contextlib.suppress(Closed):
+            GivenUp(*array.portal(1), TARGET, "iqn.2000-01.test:host", ISID + 5)
+        waits.join()
+        time.sleep(0.5)
+        is_so("the session goes on", write(living), GOOD)
+        array.quit()
 
 
 @case
