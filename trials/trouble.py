@@ -291,7 +291,7 @@ def log_that_cannot_be_written(folder):
     with Array([made(folder + "/disk", 16)], log=folder + "/none/log") as array:
         is_so("it is served", write(login()), GOOD)
         array.quit()
-        is_so("standard error", array.process.stderr.read(), "arrayd: cannot write the log\n")
+        is_so("standard error", array.process.stderr.read(), f"arrayd: cannot write the log: errno 2: {folder}/none/log\n")
 
 
 @case
@@ -729,7 +729,8 @@ def flush_failed(folder):
                   (["down"], "06 2A/06", "02 04/0C"))
             second = login(2, 1)
             is_so("by the other controller", flush(second), "03 0C/00")
-            is_so("it ends all the same", array.quit(), 0)
+            is_so("it ends all the same, and says so", array.last_words("quit\n"),
+                  (3, "not flushed 0\n", f"arrayd: unit 0 was not flushed: {place.place}/unit0\n"))
         with Array([folder + "/unit0"]) as array:
             session = login()
             is_so("after a restart", (write(session, 8), flush(session)), (GOOD, GOOD))
@@ -808,7 +809,7 @@ def hung(folder):
                     time.sleep(0.1)
                 else:
                     raise Wrong("quit waits")
-            is_so("the system's own calls came back, and the process is gone", array.process.wait(20), 0)
+            is_so("the system's own calls came back, and the process is gone", array.process.wait(20), 3)
         told = [line.split("event=", 1)[1] for line in lines(log, "hung")]
         is_so("the log", told, ["hung unit=0 file=disk call=write", "hung unit=0 file=registrations call=write"])
 

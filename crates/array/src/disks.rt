@@ -115,12 +115,31 @@ fn registrations_cause(fault: RegistrationsFault) -> (Unusable, u32) {
     }
 }
 
+// Why a file cannot be used, in words.
+fn words_of(why: Unusable) -> &'static str {
+    match why {
+        Unusable::NotThere => "it is not there",
+        Unusable::NotOpened => "it cannot be opened",
+        Unusable::Length => "its length is no multiple of 512",
+        Unusable::Empty => "it is empty",
+        Unusable::TooLong => "it is too long",
+        Unusable::InUse => "another server has it, or another unit",
+        Unusable::NotLocked => "it cannot be locked",
+        Unusable::NotMade => "it cannot be made",
+        Unusable::NotARegistrationFile => "it is no registration file",
+        Unusable::Version => "it is of another version",
+        Unusable::Failed => "a call on it failed",
+        Unusable::Forgotten => "a reboot would forget it",
+        Unusable::NoMemory => "no memory",
+    }
+}
+
 // That a file of a unit cannot be used, or that there was no memory.
-pub(crate) fn fault_of(unit: u8, part: Part, why: Unusable) -> Fault {
+pub(crate) fn fault_of(unit: u8, part: Part, why: Unusable, error: u32) -> Fault {
     match (why, part) {
         (Unusable::NoMemory, _) => Fault::NoMemory,
-        (_, Part::Disk) => Fault::CannotUseUnit(unit),
-        (_, Part::Registrations) => Fault::CannotUseRegistrationFile(unit),
+        (_, Part::Disk) => Fault::CannotUseUnit(unit, words_of(why), error),
+        (_, Part::Registrations) => { Fault::CannotUseRegistrationFile(unit, words_of(why), error) }
     }
 }
 
@@ -128,7 +147,7 @@ pub(crate) fn fault_of(unit: u8, part: Part, why: Unusable) -> Fault {
 fn refuse(log: &Log, unit: u8, part: Part, path: &str, cause: (Unusable, u32)) -> Fault {
     let (why, error) = cause;
     log.note(&Event::CannotUse(unit, part, path.as_bytes(), why, error));
-    fault_of(unit, part, why)
+    fault_of(unit, part, why, error)
 }
 
 // What tells of calls that fail on a file of a unit.

@@ -181,12 +181,15 @@ impl<R: Wait + Clock, B: Blocks, F: Blocks, O: Opener<B>, N: Namings<Opened>> Op
         self.controllers.close(self.rt);
     }
 
-    fn flush(&mut self) {
+    fn flush(&mut self) -> Result<(), u8> {
         let units = self.controllers.units();
+        let mut end = Ok(());
         for place in 0..units.count() {
             if units.flush(self.rt, place).is_err() {
                 self.log.tell(self.rt, &Event::NotFlushed(number(place)));
+                end = end.and(Err(number(place)));
             }
         }
+        end
     }
 }

@@ -135,7 +135,7 @@ fn start_record<
     };
     match RegFile::open(alloc, timed) {
         Ok(found) => Ok(found),
-        Err(_) => Err(fault_of(unit, Part::Registrations, Unusable::Failed)),
+        Err(_) => Err(fault_of(unit, Part::Registrations, Unusable::Failed, 0)),
     }
 }
 

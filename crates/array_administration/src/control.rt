@@ -244,7 +244,7 @@ fn fault_of<R: Clock>(rt: &R, log: &Log, path: &str, error: &io::Error) -> Fault
     }
     let error = u32::try_from(error.raw_os_error().unwrap_or(0)).unwrap_or(0);
     log.tell(rt, &Event::CannotControl(error));
-    Fault::CannotControl
+    Fault::CannotControl(error)
 }
 
 // Whether a socket lies at this path at which nobody listens, as an array leaves one that was killed.
