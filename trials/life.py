@@ -112,8 +112,12 @@ class Life:
         if line:
             raise Wrong(f"it says {line!r}, though a call has failed")
         unit, file = failed[0].unit, failed[0].file
-        wanted = f"arrayd: cannot use {'unit' if file == DISK else 'registration file'} {unit}"
-        self.ends(1, wanted)
+        # a folder is flushed for the registration file, and for the one that says as which unit the disk is served
+        of = {DISK: ("unit",), FOLDER: ("registration file", "unit")}.get(file, ("registration file",))
+        got = self.last_words("")
+        self.say(f"ended with {got}")
+        if got not in [(1, "", f"arrayd: cannot use {what} {unit}") for what in of]:
+            raise Wrong(f"status, output and errors at its end are {got}, and not those of {of}")
         self.came("status 1")
         return False
 

@@ -408,19 +408,26 @@ def two_arrays_of_one_number(folder):
 
 @case
 def disks_in_another_order(folder):
-    disks = [made(f"{folder}/{unit}", 16) for unit in (0, 1)]
-    for order in (disks, disks[::-1]):
-        with Array(order) as array:
-            session = login()
-            session.ready(1)
-            serial = session.inquiry(0, 0x80)[4:]
-            if order is disks:
-                write(session, text=b"of the first")
-                first = serial
-            else:
-                is_so("the same serial number", serial, first)
-                is_so("before another disk", session.read(0, 0, 1)[:3], bytes(3))
-            array.quit()
+    disks, log = [made(f"{folder}/{unit}", 16) for unit in (0, 1)], folder + "/log"
+    with Array(disks) as array:
+        is_so("a write", write(login(), text=b"of the first"), GOOD)
+        array.quit()
+    refused = "unit 0 of array 1 is unit 1 of array 1"
+    for more in ({}, {"ARRAYD_DEADLINE": "5"}):
+        is_so("in another order", ended(disks[::-1], log=log, more=more), (2, f"arrayd: {refused}"))
+    is_so("the log", lines(log, "wrong_words")[-1].split(" what=", 1)[1], f'"{refused}: {disks[1]}"')
+    is_so("the second alone", ended(disks[1:]), (2, f"arrayd: {refused}"))
+    is_so("of another array", ended(["--array", "7", *disks]), (2, "arrayd: unit 0 of array 7 is unit 0 of array 1"))
+    with open(disks[0] + ".unit", encoding="ascii") as file:
+        is_so("what a disk remembers", file.read(), "unit 0 array 1\n")
+    with Array(disks) as array:
+        is_so("in their order", login().read(0, 0, 1)[:12], b"of the first")
+        array.quit()
+    for disk in disks:
+        os.remove(disk + ".unit")
+    with Array(disks[::-1]) as array:
+        is_so("where it is meant so", login().read(1, 0, 1)[:12], b"of the first")
+        array.quit()
 
 
 @case

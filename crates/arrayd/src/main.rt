@@ -76,7 +76,8 @@ fn disk_of<'a>(options: &'a Options<'_>, unit: u8) -> &'a str {
 // The file of which a fault tells; of a registration file that of its disk.
 fn file_of<'a>(fault: Fault, options: &'a Options<'_>, asked: &'a Asked) -> &'a str {
     match fault {
-        Fault::CannotUseUnit(unit, _, _)
+        Fault::OtherUnit(unit, _, _, _)
+        | Fault::CannotUseUnit(unit, _, _)
         | Fault::CannotUseRegistrationFile(unit, _, _)
         | Fault::NotFlushed(unit) => disk_of(options, unit),
         Fault::CannotControl(_) => asked.control().unwrap_or(""),

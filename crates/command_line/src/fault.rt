@@ -19,6 +19,8 @@ use std::thread::SpawnError;
 pub enum Fault {
     /// The command line is none that the program takes.
     WrongWords,
+    /// The disk of this unit of the array with this number is another one, as the file beside it says: of which array that is.
+    OtherUnit(u8, u32, u8, u32),
     /// The file of this unit is not there, can't be read and written, or is no disk, as this text says.
     CannotUseUnit(u8, &'static str, u32),
     /// The registration file of this unit can't be read, made or understood, as this text says.
@@ -41,7 +43,7 @@ impl Fault {
         ensures { exit_status result ≡ status_of self }
     {
         match self {
-            Fault::WrongWords => ExitCode::from(2),
+            Fault::WrongWords | Fault::OtherUnit(_, _, _, _) => ExitCode::from(2),
             Fault::NotFlushed(_) => ExitCode::from(3),
             _ => ExitCode::from(1),
         }
@@ -61,6 +63,12 @@ impl Display for Fault {
     fn fmt<W: fmt::Write>(&self, f: &mut Formatter<W>) -> fmt::Result {
         match self {
             Fault::WrongWords => write!(f, "wrong words"),
+            Fault::OtherUnit(unit, array, known, of) => {
+                write!(
+                    f,
+                    "unit {unit} of array {array} is unit {known} of array {of}"
+                )
+            }
             Fault::CannotUseUnit(unit, why, error) => {
                 write!(f, "cannot use unit {unit}: {why}")?;
                 write_error(f, ", ", *error)

@@ -2,6 +2,7 @@
 ghost use Rattle.std.specs.Prelude.{◌≡◌, IfOk, OnOk};
 ghost use Rattle.disk_files.specs.System.{is_named, name_lasts};
 
+use crate::beside::{NotBegun, begun, folder_of, joined};
 use crate::system::{give_name, make_name_last, number_of};
 use crate::{
     DiskFault, DiskLock, FileBlocks, FileFault, FileLog, NamedBlocks, RegistrationsFault,
@@ -10,14 +11,10 @@ use crate::{
 use aptpl_file::{FILE_BLOCKS, OpenFault, RegFile};
 use block_file::{BLOCK_LENGTH, Blocks};
 use registrants::Record;
-use std::alloc::{AllocError, Global};
-use std::fs::{self, File, OpenFile};
-use std::io::ErrorKind;
+use std::alloc::Global;
+use std::fs::{self, File};
 use std::os::unix::fs::MetadataExt;
 use std::rt::Files;
-
-/// Under so many names is tried to begin a registration file.
-const MOST_BEGUN: u8 = 10;
 
 /// A registration file: its blocks, the record that it holds, and its lock, which has to live as long as the unit does.
 #[derive(Drop)]
@@ -113,22 +110,6 @@ fn device_of<R: Files<File = File>>(rt: &R, folder: &str) -> Option<u64> {
     }
 }
 
-// A name with this behind it.
-fn joined(alloc: Global, name: &str, end: &str) -> Result<String, AllocError> {
-    let mut path = String::from_str(alloc, name)?;
-    path.push_str(end)?;
-    Ok(path)
-}
-
-// The name under which a registration file is begun that is to have this path, where so many such names are taken.
-fn new_name(alloc: Global, path: &str, taken: u8) -> Result<String, AllocError> {
-    if taken == 0 {
-        joined(alloc, path, ".new")
-    } else {
-        format!(in alloc; "{path}.new{taken}")
-    }
-}
-
 // The file's blocks, where it is there, or else of one that was made. A link to a file that is not there is left as it is: what it leads
 // to may be there later, with the registrations of before. The name lasts: a stop may have come between the making of the file and the
 // flush of its folder.
@@ -178,7 +159,11 @@ fn made<R: Files<File = File>>(
     alloc: Global,
     path: &str,
 ) -> Result<(), RegistrationsFault> {
-    let (file, new) = begun(rt, alloc, path)?;
+    let (file, new) = match begun(rt, alloc, path) {
+        Ok(begun) => begun,
+        Err(NotBegun::NoMemory) => return Err(RegistrationsFault::NoMemory),
+        Err(NotBegun::System(error)) => return Err(RegistrationsFault::NotMade(error)),
+    };
     match named(rt, file, new.as_str(), path) {
         Ok(()) => Ok(()),
         Err(error) => {
@@ -198,34 +183,6 @@ fn named<R: Files<File = File>>(rt: &R, file: File, new: &str, path: &str) -> Re
         return Err(0);
     }
     give_name(rt, new, path)
-}
-
-// An empty file, and its name, which nothing had: this path with `.new` behind it, or a number behind that. What has such a name is the
-// disk of a unit perhaps, or what an earlier stop left; it stays as it is.
-fn begun<R: Files<File = File>>(
-    rt: &R,
-    alloc: Global,
-    path: &str,
-) -> Result<(File, String), RegistrationsFault> {
-    let mut fault = RegistrationsFault::NotMade(0);
-    for number in 0..MOST_BEGUN {
-        let Ok(new) = new_name(alloc, path, number) else {
-            return Err(RegistrationsFault::NoMemory);
-        };
-        match File::options()
-            .read(true)
-            .write(true)
-            .create_new(true)
-            .open(rt, new.as_str())
-        {
-            Ok(file) => return Ok((file, new)),
-            Err(e) if e.kind() == ErrorKind::AlreadyExists => {
-                fault = RegistrationsFault::NotMade(number_of(&e));
-            }
-            Err(e) => return Err(RegistrationsFault::NotMade(number_of(&e))),
-        }
-    }
-    Err(fault)
 }
 
 // Whether a registration file of nothing was written there.
@@ -262,13 +219,4 @@ fn is_filled<B: Blocks>(blocks: &mut B) -> bool {
         }
     }
     blocks.flush().is_ok()
-}
-
-// The folder of a file.
-fn folder_of(path: &str) -> &str {
-    match path.rsplit_once('/') {
-        Some(("", _)) => "/",
-        Some((folder, _)) => folder,
-        None => ".",
-    }
 }

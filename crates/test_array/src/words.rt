@@ -164,6 +164,10 @@ fn texts_of_the_faults(rt: HostRuntime) -> Result<(), Fail> {
     let rows = [
         (Fault::WrongWords, "wrong words"),
         (
+            Fault::OtherUnit(0, 1, 3, 7),
+            "unit 0 of array 1 is unit 3 of array 7",
+        ),
+        (
             Fault::CannotUseUnit(0, "it is not there", 2),
             "cannot use unit 0: it is not there, errno 2",
         ),

@@ -12,6 +12,7 @@
 //! - `registrations disk; APTPL 11` opens the registration file of a disk, and ends with what its record says: APTPL or not, and
 //!   the key of the first registrant, if there is one; or with why it is not opened. Where a key comes behind the disk, a record
 //!   of that one is saved then.
+//! - `unit disk 1 7` opens a disk as unit 1 of array 7.
 //! - `count disk; 4`: so many blocks the device of a file has, or why it is none; `blocks_in 512; 1`: so many a length has.
 use crate::units::files::calls::play_each;
 use std::process;
@@ -19,7 +20,7 @@ use std::process;
 #[test]
 fn each_call_ends_so(rt: HostRuntime) {
     let process = process::id(rt.process());
-    for table in &[disks(), locks(), lengths(), registrations()] {
+    for table in &[disks(), locks(), lengths(), registrations(), unit_files()] {
         play_each(&rt, process, *table);
     }
 }
@@ -180,4 +181,38 @@ holds disk.reg "text"
 
 a folder that is not there
 registrations disk/none; NotMade(2)"#
+}
+
+// The file beside a disk that says as which unit it is served.
+fn unit_files() -> &'static str {
+    r#"a disk stays the unit as which it was served first
+unit disk 1 7
+holds disk.unit "unit 1 array 7" 0A
+length disk.unit.new; none
+unit disk 1 7
+unit disk 0 7; Other(UnitName { unit: 1, array: 7 })
+unit disk 1 1; Other(UnitName { unit: 1, array: 7 })
+holds disk.unit "unit 1 array 7" 0A
+remove disk.unit
+unit disk 0 1
+unit disk 1 7; Other(UnitName { unit: 0, array: 1 })
+unit disk 0 1
+
+what lies there and names no unit stays
+put disk.unit "unit 1 array 7"
+unit disk 1 7; NamesNone
+put disk.unit ""
+unit disk 1 7; NamesNone
+put disk.unit "unit 256 array 7" 0A
+unit disk 1 7; NamesNone
+put disk.unit "unit 1 array 4294967296" 0A
+unit disk 1 7; NamesNone
+holds disk.unit "unit 1 array 4294967296" 0A
+put disk.unit "unit 7 array 4294967295" 0A
+unit disk 7 4294967295
+
+where it cannot lie
+symlink none disk.unit
+unit disk 0 1; NotRead(0)
+unit disk/none 0 1; NotRead(2)"#
 }
