@@ -77,7 +77,7 @@ is 'started anew, each unit is with its own controller' "$(sed 's/ generation.*/
 unit 1 owner 2 states 1 0'
 first=$pid
 other=$(mkdir "$place/other" && cd "$place/state" && "$OLDPWD/service/arrayd-run" "$place/other" --port "$port" unit0 2>&1; echo $?)
-is 'a second one over the same disk is refused' "$other" 'arrayd: cannot use unit 0
+is 'a second one over the same disk is refused' "$other" 'arrayd: cannot use unit 0: another server has it, or another unit: unit0
 1'
 is 'and the first is there still' "$(kill -0 "$first" && echo there)" there
 # a session that lives holds up no end
@@ -102,7 +102,7 @@ ends
 is 'SIGTERM ends it' $ended 143
 begin missing
 ends
-is 'a fault at the start is told, and the status is 1' "$(cat "$place/complains") $ended" 'arrayd: cannot use unit 0 1'
+is 'a fault at the start is told, and the status is 1' "$(cat "$place/complains") $ended" 'arrayd: cannot use unit 0: it is not there, errno 2: missing 1'
 
 # links to disks that lie elsewhere, which the start makes
 begin unit0 linked="$place/disk1"

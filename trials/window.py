@@ -627,7 +627,7 @@ def words(folder):
     is_so("version", ran(["--version"]), (0, "arrayd 1.0.0\n", ""))
     status_, told, errors = ran(["--help"])
     is_so("help", (status_, "usage: arrayd" in told, errors), (0, True, ""))
-    is_so("wrong", ran(["--no"]), (2, "", "arrayd: wrong words\n"))
+    is_so("wrong", ended(["--no"]), (2, "arrayd: wrong words"))
     is_so("two", ended(["--version", "--help"]), (2, "arrayd: wrong words"))
 
 

@@ -191,24 +191,23 @@ impl<
             controllers: &server.device.units,
             log: &server.log,
         };
-        attend(alloc, reader, writer, &mut operated);
-        Ok(())
+        attend(alloc, reader, writer, &mut operated)
     }
 }
 
-// Says that all portals listen, and obeys the console until it ends. An output that fails counts as the end of the input.
+// Says that all portals listen, and obeys the console until it ends: how the flush of the units ended then. An output that fails
+// counts as the end of the input.
 fn attend<A: Operations, I: BufRead + Drop, C: Write>(
     alloc: Global,
     reader: I,
     writer: &mut C,
     array: &mut A,
-) {
+) -> Result<(), Fault> {
     if writer.write_all(b"arrayd: ready\n").is_err() {
         array.close();
-        array.flush();
-        return;
+        return array.flush().map_err(Fault::NotFlushed);
     }
-    console(alloc, reader, writer, array);
+    console(alloc, reader, writer, array)
 }
 
 /// Tells the log of an array that ends for want of memory, or of a thread.

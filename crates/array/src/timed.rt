@@ -73,7 +73,7 @@ fn open_parts<R: Files<File = File> + Clock + Wait + Clone + Drop>(
 ) -> Result<FileParts<R>, Fault> {
     let mut disk = open_blocks(rt, alloc, log, place.unit, path)?;
     let preparer = open_preparer(rt, alloc, log, place.unit, path, &mut disk.blocks)?;
-    let found = open_record(rt, alloc, log, place.unit, path)?;
+    let found = open_record(rt, alloc, log, place, path)?;
     let file = found.file.close();
     Ok(Parts {
         place,
@@ -135,7 +135,7 @@ fn start_record<
     };
     match RegFile::open(alloc, timed) {
         Ok(found) => Ok(found),
-        Err(_) => Err(fault_of(unit, Part::Registrations, Unusable::Failed)),
+        Err(_) => Err(fault_of(unit, Part::Registrations, Unusable::Failed, 0)),
     }
 }
 

@@ -71,4 +71,8 @@ impl<B: Blocks, F: Blocks, O: Opener<B>, N: Namings<Opened>, G: Drop> Administer
     fn shut<R: Wait>(&self, rt: &R, tsih: u16) -> bool {
         self.server.device.sessions.lock(rt).shut(tsih)
     }
+
+    fn lives<R: Wait>(&self, rt: &R, tsih: u16) -> bool {
+        self.server.device.sessions.lock(rt).has_tsih(tsih)
+    }
 }

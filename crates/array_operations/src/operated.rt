@@ -1,10 +1,13 @@
 //! The array as its console sees it.
+ghost use Rattle.std.specs.Prelude.{◌≡◌, []};
+
+use access_states::Change;
 use array_administration::Operations;
 use array_units::Units;
 use block_file::{Blocks, Opener};
 use command_line::MAX_UNITS;
 use event_log::{Access, By, Event, Log, Stayed};
-use failover::{Mover, NotMoved, bring_up, preferred, take_down};
+use failover::{GroupsList, Mover, Moves, NotMoved, bring_up, preferred, take_down};
 use portal::Controllers;
 use scsi_types::Group;
 use status::Row;
@@ -16,9 +19,6 @@ use unit_state::MoveFault;
 
 /// The code of the access state unavailable (SPC-4, 5.15.2.2).
 const UNAVAILABLE: u64 = 3;
-
-/// The access states of both groups at each unit.
-type States = [(u64, u64); MAX_UNITS];
 
 /// Both controllers, as the console sees them.
 #[derive(Drop)]
@@ -43,42 +43,81 @@ fn stayed(why: MoveFault) -> Stayed {
     }
 }
 
-// Whether a controller that comes up concerns a unit with these states: the unit prefers it, or cannot be reached by it.
-fn concerns(controller: Group, place: usize, states: (u64, u64)) -> bool {
+// Whether a controller that comes up concerns a unit: it cannot be reached by it, or prefers it and has another owner. Of no other
+// does it move, so nothing of the other controller comes back.
+fn concerns(controller: Group, place: usize, row: Row) -> bool {
     let state = match controller {
-        Group::One => states.0,
-        Group::Two => states.1,
+        Group::One => row.states.0,
+        Group::Two => row.states.1,
     };
-    preferred(place) == controller || state == UNAVAILABLE
+    let is_owner = row.owner == u64::from(controller.number());
+    state == UNAVAILABLE || (preferred(place) == controller && !is_owner)
 }
 
-// Tells what a move of units came to: of each at which the states are others than before, the owner that it got; and of the one
-// that stays, if one does.
-fn tell_moves<R: Clock>(
-    rt: &R,
-    log: &Log,
-    before: &States,
-    after: &States,
-    owners: &[Group; MAX_UNITS],
-    end: Result<(), NotMoved>,
-) -> Result<(), usize> {
-    for (place, ((before, after), owner)) in before.iter().zip(after).zip(owners).enumerate() {
-        if before != after {
-            let owner = u16::from(owner.number());
-            let (first, second) = (Access::of(after.0), Access::of(after.1));
-            let set = Event::GroupsSet(number(place), owner, first, second, By::Console);
-            log.tell(rt, &set);
-        }
-    }
-    let Err(NotMoved { unit, why }) = end else {
-        return Ok(());
+// What the parameter list of a move makes of both groups: the one whose state is active/optimized, and the states of the first and
+// of the second (SPC-4, 6.45).
+fn said_by(list: &GroupsList) -> (u16, Access, Access) {
+    let one = (list[7], Access::of(u64::from(list[4])));
+    let other = (list[11], Access::of(u64::from(list[8])));
+    let owner = if list[4] == 0 { one.0 } else { other.0 };
+    let (first, second) = if one.0 == 1 {
+        (one.1, other.1)
+    } else {
+        (other.1, one.1)
     };
-    if let Some(owner) = owners.get(unit) {
-        let owner = u16::from(owner.number());
-        let stays = Event::NotMoved(number(unit), owner, stayed(why), By::Console);
-        log.tell(rt, &stays);
+    (u16::from(owner), first, second)
+}
+
+// One who moves units by another, and tells the log of each move that changed something, and of the unit that stays.
+#[derive(Drop)]
+struct ToldMoves<'a, R: Clock, M> {
+    rt: &'a R,
+    log: &'a Log,
+    mover: M,
+}
+
+impl<R: Clock, M: Moves> ToldMoves<'_, R, M> {
+    // Tells of a move of the unit at a place.
+    fn tell(&self, place: usize, list: &GroupsList, end: Result<Change, MoveFault>) {
+        let (owner, first, second) = said_by(list);
+        let event = match end {
+            Ok(change) if change.owner.is_none() && change.changed == [false, false] => return,
+            Ok(_) => Event::GroupsSet(number(place), owner, first, second, By::Console),
+            Err(why) => Event::NotMoved(number(place), owner, stayed(why), By::Console),
+        };
+        self.log.tell(self.rt, &event);
     }
-    Err(unit)
+}
+
+impl<R: Clock, M: Moves> Moves for ToldMoves<'_, R, M> {
+    ghost unit_count = { λ m. M.unit_count m.mover };
+
+    ghost asked = { λ m. M.asked m.mover };
+
+    ghost made = { M.made };
+
+    fn count(&self) -> usize {
+        self.mover.count()
+    }
+
+    fn move_to<W: Wait>(
+        &mut self,
+        rt: &W,
+        place: usize,
+        list: &GroupsList,
+    ) -> Result<Change, MoveFault> {
+        let end = self.mover.move_to(rt, place, list);
+        self.tell(place, list, end);
+        end
+    }
+}
+
+// The place of the unit that does not move, where one stays.
+fn end_of(end: Result<(), NotMoved>) -> Result<(), usize> {
+    match end {
+        Ok(()) => Ok(()),
+        Err(stays) => Err(stays.unit),
+    }
 }
 
 /// The row of the unit at a place, where there is one.
@@ -101,36 +140,29 @@ impl<R: Wait + Clock, B: Blocks, F: Blocks, O: Opener<B>, N: Namings<Opened>> Op
     O,
     N,
 > {
-    // The access states of the groups at each unit.
-    fn states(&self) -> States {
-        let units = self.controllers.units();
-        let mut states = [(0, 0); MAX_UNITS];
-        for (place, kept) in states.iter_mut().enumerate() {
-            if place < units.count() {
-                *kept = units.read(self.rt, place).states;
-            }
+    // One who moves the units, and tells of it.
+    fn mover(&self) -> ToldMoves<'_, R, Mover<'_, B, F, O, N>>
+        ensures { result.mover.asked ≡ [] }
+    {
+        ToldMoves {
+            rt: self.rt,
+            log: self.log,
+            mover: Mover::new(self.controllers.units()),
         }
-        states
     }
 
     /// Brings a controller up, unit by unit: each that prefers it gets it as its owner, and it is active/non-optimized for each
-    /// other at which it was unavailable. The first unit that does not move is told; those behind it stay.
+    /// other at which it was unavailable. What it owns already stays as it is. The first unit that does not move is told; those
+    /// behind it stay.
     pub(crate) fn up(&mut self, controller: Group) -> Result<(), usize> {
-        let before = self.states();
-        let mut owners = [controller; MAX_UNITS];
+        let units = self.controllers.units();
         let mut chosen = [false; MAX_UNITS];
-        for (place, ((owner, chosen), states)) in owners
-            .iter_mut()
-            .zip(&mut chosen)
-            .zip(&before)
-            .enumerate()
-        {
-            *owner = preferred(place);
-            *chosen = concerns(controller, place, *states);
+        for (place, chosen) in chosen.iter_mut().enumerate() {
+            if let Some(row) = row_at(self.rt, units, place) {
+                *chosen = concerns(controller, place, row);
+            }
         }
-        let mut mover = Mover::new(self.controllers.units());
-        let end = bring_up(self.rt, &mut mover, &chosen);
-        tell_moves(self.rt, self.log, &before, &self.states(), &owners, end)
+        end_of(bring_up(self.rt, &mut self.mover(), &chosen))
     }
 }
 
@@ -141,11 +173,7 @@ impl<R: Wait + Clock, B: Blocks, F: Blocks, O: Opener<B>, N: Namings<Opened>> Op
     }
 
     fn down(&mut self, controller: Group) -> Result<(), usize> {
-        let before = self.states();
-        let mut mover = Mover::new(self.controllers.units());
-        let end = take_down(self.rt, &mut mover, controller);
-        let owners = [controller.other(); MAX_UNITS];
-        tell_moves(self.rt, self.log, &before, &self.states(), &owners, end)
+        end_of(take_down(self.rt, &mut self.mover(), controller))
     }
 
     fn close(&mut self) {
@@ -153,12 +181,15 @@ impl<R: Wait + Clock, B: Blocks, F: Blocks, O: Opener<B>, N: Namings<Opened>> Op
         self.controllers.close(self.rt);
     }
 
-    fn flush(&mut self) {
+    fn flush(&mut self) -> Result<(), u8> {
         let units = self.controllers.units();
+        let mut end = Ok(());
         for place in 0..units.count() {
             if units.flush(self.rt, place).is_err() {
                 self.log.tell(self.rt, &Event::NotFlushed(number(place)));
+                end = end.and(Err(number(place)));
             }
         }
+        end
     }
 }

@@ -12,6 +12,7 @@ ghost use Rattle.disk_files.specs.BackingLaws.{as_many, as_wide, lies_before};
 ghost use Rattle.disk_files.specs.Tally.{none, all_failures, once_more_opened};
 ghost use Rattle.disk_files.specs.Lasting.{IsSettled};
 ghost use Rattle.disk_files.specs.Lengths.{IsLengthFault};
+ghost use Rattle.disk_files.specs.System.{is_named};
 ghost use Rattle.disk_files.specs.Told.{has_told};
 ghost use Rattle.disk_files.specs.Beside.{WereRead};
 ghost use Rattle.disk_preparer.specs.Beside.{was_read};
@@ -260,7 +261,8 @@ impl FileBlocks<SystemFile> {
         rt: &R,
         path: &str,
     ) -> Result<FileBlocks<SystemFile>, FileFault>
-        ensures { IfOk result (λ d. d.tally ≡ none) }
+        ensures none { IfOk result (λ d. d.tally ≡ none) }
+        ensures named { OnOk result (is_named path.now) }
     {
         match SystemFile::open(rt, path) {
             Ok(file) => FileBlocks::of(file),

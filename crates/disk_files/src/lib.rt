@@ -4,6 +4,7 @@
 #![tactic(auto)]
 
 mod backing;
+mod beside;
 mod blocks;
 mod disk;
 mod fault;
@@ -17,6 +18,7 @@ mod opener;
 mod registrations;
 mod system;
 mod tally;
+mod unit_file;
 mod writes;
 
 pub use backing::{BackingFile, Counted};
@@ -31,4 +33,5 @@ pub use opener::FileOpener;
 pub use registrations::{Registrations, open_registrations};
 pub use system::{SystemFile, give_name, make_name_last};
 pub use tally::Tally;
+pub use unit_file::{UnitFileFault, UnitName, open_as};
 pub use writes::Writes;

@@ -14,6 +14,7 @@ mod late;
 pub mod laws;
 mod live;
 mod logged_target;
+mod login_limit;
 mod memory;
 mod observer;
 mod server;

@@ -33,6 +33,8 @@ pub enum BeginFault {
     NoPortName,
     /// This unit has no room for it.
     NoRoom(u8),
+    /// Its connection was over when its turn came.
+    Left,
     /// A session has each TSIH.
     NoTsih,
     /// As many sessions have begun as are counted.
@@ -288,6 +290,10 @@ fn attach_and_enter<
     ensures grounds { IfErr result (IsGrounded S.says false) }
     ensures left { IfErr result (λ _. at.new.items ≡ []) }
 {
+    // It may have waited for its turn for long, and would end a session that lives.
+    if !connection.is_held() {
+        return Err(BeginFault::Left);
+    }
     match attach_all(rt, alloc, units, &port, group, at, seen) {
         Ok(()) => {}
         Err(fault) => return Err(fault),

@@ -46,7 +46,7 @@ fn quit<B: Blocks, F: Blocks, O: Opener<B>, N: Namings<Opened>, R: Wait + Clock>
         controllers,
         log: &log,
     };
-    console(alloc, "quit\n".as_bytes(), &mut told, &mut operated);
+    let _ = console(alloc, "quit\n".as_bytes(), &mut told, &mut operated);
 }
 
 // Behind it no desk has a job any more, where an open one would wait for the next. Each unit was flushed: of each the next flush fails.

@@ -6,7 +6,8 @@ use crate::runs::{clean, folder, path_of, reads, sized, writes};
 use aptpl_file::RegFile;
 use block_file::{Blocks, Opener};
 use disk_files::{
-    Disk, FileBlocks, FileFault, Registrations, blocks_in, open_disk, open_registrations,
+    Disk, FileBlocks, FileFault, Registrations, UnitName, blocks_in, open_as, open_disk,
+    open_registrations,
 };
 use reservations::Record;
 use std::alloc::Global;
@@ -115,6 +116,7 @@ fn looks_so<R: Files<File = File> + AllocGlobal + Abort>(rt: &R, path: &str, row
         },
         "count" => is_counted(rt, rt.alloc(), count(rt, path), row),
         "registrations" => is_opened(rt, rt.alloc(), path, row),
+        "unit" => is_unit(rt, rt.alloc(), path, row),
         _ => changes(rt, rt.alloc(), path, row),
     }
 }
@@ -140,6 +142,19 @@ fn count<R: Files<File = File>>(rt: &R, path: &str) -> Result<u32, FileFault> {
 fn is_counted(rt: &impl Abort, alloc: Global, count: Result<u32, FileFault>, row: &Row) -> bool {
     match count {
         Ok(count) => row.end.parse() == Ok(count),
+        Err(fault) => is_told(rt, alloc, &fault, row),
+    }
+}
+
+// Opens a disk as the unit of an array, both by their numbers.
+fn is_unit<R: Files<File = File> + Abort>(rt: &R, alloc: Global, path: &str, row: &Row) -> bool {
+    let (unit, array) = row.rest.split_once(' ').unwrap_or((row.rest, ""));
+    let name = UnitName {
+        unit: unit.parse().expect(rt, unit),
+        array: array.parse().expect(rt, array),
+    };
+    match open_as(rt, alloc, path, name) {
+        Ok(()) => row.ends(true),
         Err(fault) => is_told(rt, alloc, &fault, row),
     }
 }

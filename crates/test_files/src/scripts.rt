@@ -12,6 +12,7 @@
 //! - `registrations disk; APTPL 11` opens the registration file of a disk, and ends with what its record says: APTPL or not, and
 //!   the key of the first registrant, if there is one; or with why it is not opened. Where a key comes behind the disk, a record
 //!   of that one is saved then.
+//! - `unit disk 1 7` opens a disk as unit 1 of array 7.
 //! - `count disk; 4`: so many blocks the device of a file has, or why it is none; `blocks_in 512; 1`: so many a length has.
 use crate::calls::play_each;
 use std::process;
@@ -19,7 +20,7 @@ use std::process;
 #[test]
 fn each_call_ends_so(rt: HostRuntime) {
     let process = process::id(rt.process());
-    for table in &[disks(), locks(), lengths(), registrations()] {
+    for table in &[disks(), locks(), lengths(), registrations(), unit_files()] {
         play_each(&rt, process, *table);
     }
 }
@@ -141,10 +142,31 @@ registrations disk 33; APTPL 22
 length disk.reg; 34304
 length disk.reg.new; none
 
-what a stop left of a file is made anew
+what lies where a file is begun is left as it is, and the file has its name all the same
 put disk.reg.new "half of it"
-registrations disk; no APTPL
-length disk.reg.new; none
+symlink disk.reg.new disk.reg.new1
+link disk.reg.new disk.reg.new2
+registrations disk 11; no APTPL
+holds disk.reg.new "half of it"
+length disk.reg; 34304
+length disk.reg.new3; none
+registrations disk; APTPL 11
+length disk.reg.new3; none
+
+where all names are taken none is made
+put disk.reg.new "1"
+link disk.reg.new disk.reg.new1
+link disk.reg.new disk.reg.new2
+link disk.reg.new disk.reg.new3
+link disk.reg.new disk.reg.new4
+link disk.reg.new disk.reg.new5
+link disk.reg.new disk.reg.new6
+link disk.reg.new disk.reg.new7
+link disk.reg.new disk.reg.new8
+link disk.reg.new disk.reg.new9
+registrations disk; NotMade(17)
+holds disk.reg.new "1"
+length disk.reg; none
 
 a file that is no registration file stays
 put disk.reg 34304*00
@@ -159,4 +181,38 @@ holds disk.reg "text"
 
 a folder that is not there
 registrations disk/none; NotMade(2)"#
+}
+
+// The file beside a disk that says as which unit it is served.
+fn unit_files() -> &'static str {
+    r#"a disk stays the unit as which it was served first
+unit disk 1 7
+holds disk.unit "unit 1 array 7" 0A
+length disk.unit.new; none
+unit disk 1 7
+unit disk 0 7; Other(UnitName { unit: 1, array: 7 })
+unit disk 1 1; Other(UnitName { unit: 1, array: 7 })
+holds disk.unit "unit 1 array 7" 0A
+remove disk.unit
+unit disk 0 1
+unit disk 1 7; Other(UnitName { unit: 0, array: 1 })
+unit disk 0 1
+
+what lies there and names no unit stays
+put disk.unit "unit 1 array 7"
+unit disk 1 7; NamesNone
+put disk.unit ""
+unit disk 1 7; NamesNone
+put disk.unit "unit 256 array 7" 0A
+unit disk 1 7; NamesNone
+put disk.unit "unit 1 array 4294967296" 0A
+unit disk 1 7; NamesNone
+holds disk.unit "unit 1 array 4294967296" 0A
+put disk.unit "unit 7 array 4294967295" 0A
+unit disk 7 4294967295
+
+where it cannot lie
+symlink none disk.unit
+unit disk 0 1; NotRead(0)
+unit disk/none 0 1; NotRead(2)"#
 }

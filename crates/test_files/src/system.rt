@@ -50,7 +50,7 @@ fn each_call_is_one_of_the_system(rt: HostRuntime) {
 fn lasts<R: Files<File = File> + Abort>(rt: &R, folder: &str) -> bool {
     drop(File::create(rt, "begun").expect(rt, "a file"));
     match give_name(rt, "begun", "named") {
-        Ok(()) => make_name_last(rt, folder, "named"),
+        Ok(()) => make_name_last(rt, folder, "named").is_ok(),
         Err(_) => false,
     }
 }

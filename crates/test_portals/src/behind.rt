@@ -49,7 +49,7 @@ impl<R: Wait + Clock, B: Blocks, F: Blocks, O: Opener<B>, N: Namings<Opened>> Co
             controllers: self.controllers,
             log: &log,
         };
-        console(alloc, lines.as_bytes(), &mut written, &mut operated);
+        let _ = console(alloc, lines.as_bytes(), &mut written, &mut operated);
         Ok(String::from_utf8(written)?)
     }
 
