@@ -20,7 +20,7 @@ use disk_preparer::{OnDisk, Preparer};
 use event_log::{Event, Log, Resource};
 use portal::{
     Controllers, Disks, Gate, Lane, Prepared, Server, SmallStacks, TargetDevice, listen,
-    start_lanes,
+    start_flushers, start_lanes,
 };
 use scsi_types::Group;
 use std::alloc::Global;
@@ -159,6 +159,8 @@ impl<
         let mut stacks = SmallStacks;
         let first = start_lanes(rt, alloc, &self.server, Group::One, &mut stacks)?;
         let second = start_lanes(rt, alloc, &self.server, Group::Two, &mut stacks)?;
+        let units = self.server.device.units.units().count();
+        start_flushers(rt, &self.server, units, &mut stacks)?;
         let server = Arc::try_clone(&self.server)?;
         let Ok(administered) = Arc::new(alloc, AdministeredServer { server }) else {
             return Err(Fault::NoMemory);
@@ -193,6 +195,7 @@ impl<
             log: &server.log,
         };
         attend(alloc, reader, writer, &mut operated);
+        server.device.gate.close();
         Ok(())
     }
 }

@@ -4,12 +4,14 @@
 #![tactic(auto)]
 
 mod backing;
+mod backlog;
 mod blocks;
 mod disk;
 mod fault;
 mod file_log;
 mod file_preparer;
 mod flushes;
+mod kernel_limits;
 pub mod laws;
 mod named;
 mod node;
