@@ -288,7 +288,8 @@ impl<R: Wait + Clock + Drop, P: Preparer> Preparer for DeadlinedPreparer<R, P> {
     // These call no file.
     fn let_in(&self, bytes: u64, account: &mut Account, patience: Duration) {
         if !self.watch.is_hung() {
-            self.preparer.let_in(bytes, account, patience.min(self.watch.patience()));
+            self.preparer
+                .let_in(bytes, account, patience.min(self.watch.patience()));
         }
     }
 

@@ -2,6 +2,7 @@
 //! waits that writes more than the disk does.
 
 use disk_preparer::Account;
+use event_log::Unflushed;
 use std::sync::Wait;
 use std::sync::atomic::{AtomicBool, AtomicU64, Ordering};
 use std::time::Duration;
@@ -52,24 +53,14 @@ const OVER: u64 = 2;
 /// A flush that has begun: how many bytes of writes had ended, and how many of them were flushed; and when it began, where no other one
 /// ran, in microseconds.
 #[derive(Clone, Copy)]
-pub(crate) struct Begun {
+pub struct Begun {
     ended: u64,
     flushed: u64,
     alone: Option<u64>,
 }
 
-/// What is seen of it.
-#[derive(Clone, Copy)]
-pub(crate) struct SeenBacklog {
-    pub unflushed: u64,
-    pub bound: u64,
-    pub waits: u64,
-    pub waited_micros: u64,
-    pub flushes: u64,
-}
-
 /// What was written to a disk and not flushed, in bytes.
-pub(crate) struct Backlog {
+pub struct Backlog {
     // Of writes that have ended; of those that had ended when the last flush began that is done, and when the last one began at all.
     ended: AtomicU64,
     flushed: AtomicU64,
@@ -136,12 +127,14 @@ fn allowed(unflushed: u64, bound: u64) -> u64 {
     }
     let most = bound / 4 * 3;
     let free = most.saturating_sub(unflushed).saturating_mul(WHOLE);
-    free.checked_div(most.saturating_sub(kept)).unwrap_or(0).max(WHOLE / 16)
+    free.checked_div(most.saturating_sub(kept))
+        .unwrap_or(0)
+        .max(WHOLE / 16)
 }
 
 impl Backlog {
     /// Of a disk to which nothing was written, where the kernel lets programs write so much.
-    pub(crate) fn new(free: u64) -> Backlog {
+    pub fn new(free: u64) -> Backlog {
         let backlog = Backlog {
             ended: AtomicU64::new(0),
             flushed: AtomicU64::new(0),
@@ -164,7 +157,7 @@ impl Backlog {
     }
 
     /// Sets the bound of a disk that is one among so many, where the kernel lets programs write so much.
-    pub(crate) fn bind(&self, free: u64, among: u64) {
+    pub fn bind(&self, free: u64, among: u64) {
         let of_disk = self.pace.load(Ordering::Relaxed).saturating_mul(SECONDS);
         let of_kernel = (free / 4).saturating_mul(OF_KERNEL) / among.max(1);
         let bound = of_disk.max(LEAST).min(of_kernel).max(SMALLEST);
@@ -173,7 +166,7 @@ impl Backlog {
     }
 
     /// What has been written and is not known to be flushed.
-    pub(crate) fn unflushed(&self) -> u64 {
+    pub fn unflushed(&self) -> u64 {
         let flushed = self.flushed.load(Ordering::Relaxed);
         self.ended.load(Ordering::Relaxed).saturating_sub(flushed)
     }
@@ -187,13 +180,19 @@ impl Backlog {
         }
         let pace = self.pace.load(Ordering::Relaxed);
         let likely = (pace / 1000).saturating_mul(now.saturating_sub(since)) / 1000;
-        let behind = self.ended.load(Ordering::Relaxed).saturating_sub(self.begun.load(Ordering::Relaxed));
+        let behind = self
+            .ended
+            .load(Ordering::Relaxed)
+            .saturating_sub(self.begun.load(Ordering::Relaxed));
         unflushed.saturating_sub(likely).max(behind)
     }
 
     // Writes of so many bytes have ended.
     fn tell(&self, bytes: u64) {
-        let ended = self.ended.fetch_add(bytes, Ordering::Relaxed).wrapping_add(bytes);
+        let ended = self
+            .ended
+            .fetch_add(bytes, Ordering::Relaxed)
+            .wrapping_add(bytes);
         let bound = self.bound.load(Ordering::Relaxed);
         if self.is_due() && self.bell.load(Ordering::Relaxed) == QUIET {
             self.ring();
@@ -212,7 +211,7 @@ impl Backlog {
     }
 
     /// A session writes so many bytes next. Whether it has to look if it waits.
-    pub(crate) fn enter(&self, bytes: u64, account: &mut Account) -> bool {
+    pub fn enter(&self, bytes: u64, account: &mut Account) -> bool {
         let told = account.told(TOLD);
         if told > 0 {
             self.tell(told);
@@ -222,7 +221,7 @@ impl Backlog {
     }
 
     /// Whether a session has its share of what is not flushed.
-    pub(crate) fn is_heavy(&self, account: &mut Account) -> bool {
+    pub fn is_heavy(&self, account: &mut Account) -> bool {
         if account.recent() < self.bound.load(Ordering::Relaxed) / SHARES {
             return false;
         }
@@ -233,20 +232,25 @@ impl Backlog {
     }
 
     /// For how many microseconds such a session waits before a write of so many bytes.
-    pub(crate) fn turn(&self, bytes: u64, account: &mut Account, now: u64) -> u64 {
+    pub fn turn(&self, bytes: u64, account: &mut Account, now: u64) -> u64 {
         let (writers, before) = (&self.writers, &self.writers_before);
-        let writers = writers.load(Ordering::Relaxed).max(before.load(Ordering::Relaxed));
+        let writers = writers
+            .load(Ordering::Relaxed)
+            .max(before.load(Ordering::Relaxed));
         let bound = self.bound.load(Ordering::Relaxed);
         let of_pace = allowed(self.likely_unflushed(now), bound);
         let pace = part(self.pace.load(Ordering::Relaxed), of_pace);
         let bytes = bytes.saturating_mul(writers.max(1));
-        let cost = bytes.saturating_mul(1_000_000).checked_div(pace).unwrap_or(LONG);
+        let cost = bytes
+            .saturating_mul(1_000_000)
+            .checked_div(pace)
+            .unwrap_or(LONG);
         let ahead = account.ahead(now, cost.min(LONG));
         if ahead < SHORT { 0 } else { ahead.min(LONG) }
     }
 
     /// Whether there is room for what a session writes that has its share, or for one that has not.
-    pub(crate) fn has_room(&self, is_heavy: bool) -> bool {
+    pub fn has_room(&self, is_heavy: bool) -> bool {
         let bound = self.bound.load(Ordering::Relaxed);
         let most = if is_heavy {
             bound
@@ -257,13 +261,13 @@ impl Backlog {
     }
 
     /// A session has waited for so many microseconds.
-    pub(crate) fn waited(&self, micros: u64) {
+    pub fn waited(&self, micros: u64) {
         self.waits.fetch_add(1, Ordering::Relaxed);
         self.waited_micros.fetch_add(micros, Ordering::Relaxed);
     }
 
     /// A flush begins: what it flushes has ended by now.
-    pub(crate) fn begin(&self, now: u64) -> Begun {
+    pub fn begin(&self, now: u64) -> Begun {
         let flushed = self.flushed.load(Ordering::Relaxed);
         let ended = self.ended.load(Ordering::Relaxed);
         raise(&self.begun, ended);
@@ -286,7 +290,7 @@ impl Backlog {
     }
 
     /// That flush has ended, well or not.
-    pub(crate) fn end(&self, begun: Begun, now: u64, is_done: bool) {
+    pub fn end(&self, begun: Begun, now: u64, is_done: bool) {
         self.running.fetch_sub(1, Ordering::Relaxed);
         if let Some(since) = begun.alone {
             self.since.store(0, Ordering::Relaxed);
@@ -325,18 +329,18 @@ impl Backlog {
     }
 
     /// Nobody is to flush any more.
-    pub(crate) fn close(&self) {
+    pub fn close(&self) {
         self.bell.store(OVER, Ordering::Release);
         self.bell.wake_all();
     }
 
     /// Whether nobody is.
-    pub(crate) fn is_closed(&self) -> bool {
+    pub fn is_closed(&self) -> bool {
         self.bell.load(Ordering::Acquire) == OVER
     }
 
     /// Waits so long until a flush is due, and counts it; whether one is.
-    pub(crate) fn await_due<R: Wait>(&self, rt: &R, time: Duration) -> bool {
+    pub fn await_due<R: Wait>(&self, rt: &R, time: Duration) -> bool {
         self.bell.park_timeout(rt, QUIET as u32, time);
         let _ = self
             .bell
@@ -349,13 +353,13 @@ impl Backlog {
     }
 
     /// What is seen of it.
-    pub(crate) fn seen(&self) -> SeenBacklog {
-        SeenBacklog {
-            unflushed: self.unflushed(),
+    pub fn seen(&self) -> Unflushed {
+        Unflushed {
+            bytes: self.unflushed(),
             bound: self.bound.load(Ordering::Relaxed),
             waits: self.waits.load(Ordering::Relaxed),
-            waited_micros: self.waited_micros.load(Ordering::Relaxed),
-            flushes: self.flushes.load(Ordering::Relaxed),
+            wait_micros: self.waited_micros.load(Ordering::Relaxed),
+            own_flushes: self.flushes.load(Ordering::Relaxed),
         }
     }
 }

@@ -491,7 +491,8 @@ impl<R: Clock + Wait + Drop, F: LastingFile> Preparer for FilePreparer<R, F> {
         };
         let begun = self.backlog.begin(self.micros().unwrap_or(0));
         let end = flushes.flush(&self.rt, self.node);
-        self.backlog.end(begun, self.micros().unwrap_or(0), end.is_ok());
+        self.backlog
+            .end(begun, self.micros().unwrap_or(0), end.is_ok());
         match end {
             Ok(()) => true,
             Err(fault) => {
@@ -516,7 +517,12 @@ impl<R: Clock + Wait + Drop, F: LastingFile> Preparer for FilePreparer<R, F> {
         };
         for _ in self.rt.forever() {
             self.backlog.bind(self.limits.free(), among);
-            let is_due = self.backlog.await_due(&self.rt, Duration::from_millis(NOW_AND_THEN));
+            if let Some(file_log) = &self.file_log {
+                file_log.tell_unflushed(self.backlog.seen());
+            }
+            let is_due = self
+                .backlog
+                .await_due(&self.rt, Duration::from_millis(NOW_AND_THEN));
             if self.backlog.is_closed() {
                 return false;
             }

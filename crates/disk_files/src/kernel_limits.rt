@@ -26,7 +26,12 @@ fn number_in(bytes: &[u8]) -> Option<u64> {
     for byte in bytes {
         if byte.is_ascii_digit() {
             let digit = u64::from(byte.saturating_sub(b'0'));
-            found = Some(found.unwrap_or(0u64).saturating_mul(10).saturating_add(digit));
+            found = Some(
+                found
+                    .unwrap_or(0u64)
+                    .saturating_mul(10)
+                    .saturating_add(digit),
+            );
         } else if found.is_some() {
             return found;
         }
@@ -36,7 +41,9 @@ fn number_in(bytes: &[u8]) -> Option<u64> {
 
 // The part of some bytes behind these.
 fn behind<'a>(bytes: &'a [u8], word: &[u8]) -> Option<&'a [u8]> {
-    let at = bytes.windows(word.len().max(1)).position(|window| window == word)?;
+    let at = bytes
+        .windows(word.len().max(1))
+        .position(|window| window == word)?;
     bytes.get(at..)
 }
 

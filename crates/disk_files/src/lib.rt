@@ -22,6 +22,7 @@ mod tally;
 mod writes;
 
 pub use backing::{BackingFile, Counted};
+pub use backlog::{Backlog, Begun};
 pub use blocks::{FileBlocks, blocks_in};
 pub use disk::{Disk, DiskLock, open_disk};
 pub use fault::{DiskFault, FileFault, RegistrationsFault};

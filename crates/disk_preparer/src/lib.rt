@@ -14,7 +14,6 @@ mod memory;
 
 pub use account::Account;
 pub use memory::{Beside, BlockMemory};
-
 use std::time::Duration;
 
 /// The system keeps pages of so many blocks of 512 bytes in memory.

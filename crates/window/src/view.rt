@@ -1,5 +1,7 @@
 //! What is seen of an array at one look.
 
+use event_log::Unflushed;
+
 /// How often something was counted, and what that is called.
 #[derive(Drop)]
 pub struct NamedCount {
@@ -82,6 +84,8 @@ pub struct UnitView {
     pub registration_failures: Vec<NamedCount>,
     /// For how long the oldest command is served.
     pub oldest_command_micros: u64,
+    /// What was written to its disk and not flushed.
+    pub unflushed: Unflushed,
     pub paths: Vec<PathView>,
 }
 

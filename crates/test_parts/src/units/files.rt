@@ -1,5 +1,6 @@
 //! Tests over real files, in a folder of their own each.
 mod ahead;
+mod backlog;
 mod beside;
 mod calls;
 pub mod fake;
