@@ -2,7 +2,7 @@
 
 use crate::administered::Administered;
 use command_line::Options;
-use event_log::{BOUNDS, Seen, Unflushed};
+use event_log::{BOUNDS, Seen};
 use scsi_types::Group;
 use status::Row;
 use std::alloc::{AllocError, Global};
@@ -88,14 +88,6 @@ fn paths_of(
     Ok(paths)
 }
 
-// What was written to a unit's disk and not flushed.
-fn unflushed_of(seen: &Seen, place: usize) -> Unflushed {
-    match seen.happened.unflushed.get(place) {
-        Some(unflushed) => *unflushed,
-        None => Unflushed::none(),
-    }
-}
-
 // A unit as it is shown.
 fn unit_of(
     alloc: Global,
@@ -125,7 +117,6 @@ fn unit_of(
         disk_failures: window::failures(alloc, &signs.disk)?,
         registration_failures: window::failures(alloc, &signs.registrations)?,
         oldest_command_micros: oldest,
-        unflushed: unflushed_of(seen, place),
         paths,
     })
 }

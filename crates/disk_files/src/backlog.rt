@@ -2,7 +2,6 @@
 //! waits that writes more than the disk does.
 
 use disk_preparer::Account;
-use event_log::Unflushed;
 use std::sync::Wait;
 use std::sync::atomic::{AtomicBool, AtomicU64, Ordering};
 use std::time::Duration;
@@ -352,14 +351,8 @@ impl Backlog {
         is_due
     }
 
-    /// What is seen of it.
-    pub fn seen(&self) -> Unflushed {
-        Unflushed {
-            bytes: self.unflushed(),
-            bound: self.bound.load(Ordering::Relaxed),
-            waits: self.waits.load(Ordering::Relaxed),
-            wait_micros: self.waited_micros.load(Ordering::Relaxed),
-            own_flushes: self.flushes.load(Ordering::Relaxed),
-        }
+    /// How much may be unflushed.
+    pub fn bound(&self) -> u64 {
+        self.bound.load(Ordering::Relaxed)
     }
 }

@@ -1,6 +1,6 @@
 //! What tells the log of a file of a unit: of its calls that failed, and once that it became longer.
 
-use event_log::{Call, Event, Log, Part, Place, Unflushed};
+use event_log::{Call, Event, Log, Part, Place};
 use std::sync::atomic::{AtomicBool, Ordering};
 
 /// Tells the log of calls that failed on a file of a unit, and once that the file became longer.
@@ -39,13 +39,6 @@ impl FileLog {
         let count = u32::try_from(blocks).unwrap_or(u32::MAX);
         let place = Place { first, count };
         self.log.note(&Event::DeviceFailed(self.unit, self.part, call, place, error));
-    }
-
-    /// Tells what was written to the file and is not flushed.
-    pub fn tell_unflushed(&self, unflushed: Unflushed) {
-        if let Some(meters) = self.log.meters() {
-            meters.unflushed(self.unit, unflushed);
-        }
     }
 
     /// Tells that the file has become longer, the first time.

@@ -517,9 +517,6 @@ impl<R: Clock + Wait + Drop, F: LastingFile> Preparer for FilePreparer<R, F> {
         };
         for _ in self.rt.forever() {
             self.backlog.bind(self.limits.free(), among);
-            if let Some(file_log) = &self.file_log {
-                file_log.tell_unflushed(self.backlog.seen());
-            }
             let is_due = self
                 .backlog
                 .await_due(&self.rt, Duration::from_millis(NOW_AND_THEN));

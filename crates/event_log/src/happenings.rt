@@ -25,30 +25,6 @@ pub const CALLS_IN_ORDER: [Call; CALLS] = [
     Call::Flush,
 ];
 
-/// What was written to the disk of a unit and not flushed, in bytes: how much, and how much may be. How many WRITEs have waited for
-/// that, and for how many microseconds together; how many flushes the disk's preparer has begun by itself.
-#[derive(Clone, Copy)]
-pub struct Unflushed {
-    pub bytes: u64,
-    pub bound: u64,
-    pub waits: u64,
-    pub wait_micros: u64,
-    pub own_flushes: u64,
-}
-
-impl Unflushed {
-    /// Of a disk to which nothing was written.
-    pub const fn none() -> Unflushed {
-        Unflushed {
-            bytes: 0,
-            bound: 0,
-            waits: 0,
-            wait_micros: 0,
-            own_flushes: 0,
-        }
-    }
-}
-
 /// What is counted of events.
 #[derive(Clone, Copy)]
 pub struct Happenings {
@@ -60,7 +36,6 @@ pub struct Happenings {
     pub registrations: [[u64; CALLS]; UNITS],
     /// Calls on files of the units that took longer than the deadline, and files that became longer.
     pub hung: [u64; UNITS],
-    pub unflushed: [Unflushed; UNITS],
     pub grew: [u64; UNITS],
     /// How many blocks the disks of the units have.
     pub blocks: [u64; UNITS],
@@ -104,7 +79,6 @@ impl Happenings {
             disks: [[0; CALLS]; UNITS],
             registrations: [[0; CALLS]; UNITS],
             hung: [0; UNITS],
-            unflushed: [Unflushed::none(); UNITS],
             grew: [0; UNITS],
             blocks: [0; UNITS],
         }

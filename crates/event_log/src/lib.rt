@@ -17,7 +17,7 @@ mod writer;
 
 pub use counts::{BOUNDS, BUCKETS, Counts, Ended, IN_ORDER, KEYS, OPERATIONS, Served};
 pub use event::{By, Event, Initiator, Path, Place, Reservation};
-pub use happenings::{CALLS, CALLS_IN_ORDER, CAUSES, CAUSES_IN_ORDER, Happenings, Unflushed};
+pub use happenings::{CALLS, CALLS_IN_ORDER, CAUSES, CAUSES_IN_ORDER, Happenings};
 pub use line::{escape, escape_by};
 pub use log::Log;
 pub use meters::{Hand, Meters, Seen, SessionSeen, Visit};

@@ -3,7 +3,7 @@
 
 use crate::counts::{Counts, Served};
 use crate::event::{Event, Initiator, Path};
-use crate::happenings::{Happenings, Unflushed};
+use crate::happenings::Happenings;
 use crate::words::{Operation, SessionType};
 use std::alloc::{AllocError, Global};
 use std::hint::spin_loop;
@@ -299,15 +299,6 @@ impl Meters {
             && let Some(known) = happened.blocks.get_mut(usize::from(unit))
         {
             *known = blocks;
-        }
-    }
-
-    /// The disk of a unit has so much that is not flushed.
-    pub fn unflushed(&self, unit: u8, unflushed: Unflushed) {
-        if let Some(mut happened) = reach(&self.happened)
-            && let Some(known) = happened.unflushed.get_mut(usize::from(unit))
-        {
-            *known = unflushed;
         }
     }
 

@@ -3,7 +3,6 @@
 use crate::view::{
     ArrayView, Commands, Controller, NamedCount, PathView, Registration, SessionView, UnitView,
 };
-use event_log::Unflushed;
 use json::Writer;
 use std::alloc::{AllocError, Global};
 
@@ -124,18 +123,12 @@ impl AsJson for Registration {
     }
 }
 
-impl AsJson for Unflushed {
-    fn put(&self, json: &mut Writer) -> Result<(), AllocError> {
-        put_fields!(json, self: bytes, bound, waits, wait_micros, own_flushes)
-    }
-}
-
 impl AsJson for UnitView {
     fn put(&self, json: &mut Writer) -> Result<(), AllocError> {
         put_fields!(json, self:
             unit, owner, generation, registrants, reservation_type, registrations, entries, disk,
             registration_file, blocks, health, troubles, disk_failures, registration_failures,
-            oldest_command_micros, unflushed, paths)
+            oldest_command_micros, paths)
     }
 }
 

@@ -78,18 +78,13 @@ pub(crate) enum OfUnit {
     Entries,
     Bytes,
     OldestCommand,
-    Unflushed,
-    Bound,
-    Waits,
-    Waited,
-    OwnFlushes,
     Disk,
     Failures,
     Troubles,
 }
 
 /// All of it, in the order of its lines.
-pub(crate) static OF_UNITS: [Metric<OfUnit>; 15] = [
+pub(crate) static OF_UNITS: [Metric<OfUnit>; 10] = [
     (
         OfUnit::Owner,
         "arrayd_unit_owner",
@@ -131,36 +126,6 @@ pub(crate) static OF_UNITS: [Metric<OfUnit>; 15] = [
         "arrayd_unit_oldest_command_seconds",
         "gauge",
         "For how long the unit's oldest command is served, 0 where none is.",
-    ),
-    (
-        OfUnit::Unflushed,
-        "arrayd_unit_unflushed_bytes",
-        "gauge",
-        "How many bytes were written to the unit's disk and are not flushed.",
-    ),
-    (
-        OfUnit::Bound,
-        "arrayd_unit_unflushed_bound_bytes",
-        "gauge",
-        "How many that may be.",
-    ),
-    (
-        OfUnit::Waits,
-        "arrayd_unit_write_waits_total",
-        "counter",
-        "Writes that have waited because of that, before their unit was asked.",
-    ),
-    (
-        OfUnit::Waited,
-        "arrayd_unit_write_wait_seconds_total",
-        "counter",
-        "For how long they have waited.",
-    ),
-    (
-        OfUnit::OwnFlushes,
-        "arrayd_unit_own_flushes_total",
-        "counter",
-        "Flushes of the unit's disk that no command has asked for.",
     ),
     (
         OfUnit::Disk,

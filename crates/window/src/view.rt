@@ -1,7 +1,5 @@
 //! What is seen of an array at one look.
 
-use event_log::Unflushed;
-
 /// How often something was counted, and what that is called.
 #[derive(Drop)]
 pub struct NamedCount {
@@ -84,8 +82,6 @@ pub struct UnitView {
     pub registration_failures: Vec<NamedCount>,
     /// For how long the oldest command is served.
     pub oldest_command_micros: u64,
-    /// What was written to its disk and not flushed.
-    pub unflushed: Unflushed,
     pub paths: Vec<PathView>,
 }
 

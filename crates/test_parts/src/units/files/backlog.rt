@@ -56,7 +56,7 @@ fn a_flush_that_fails_counts_nothing(rt: HostRuntime) {
 #[test]
 fn who_writes_little_does_not_wait_for_who_writes_much(rt: HostRuntime) {
     let (backlog, mut much, mut little) = (Backlog::new(FREE), Account::new(), Account::new());
-    write(&backlog, &mut much, backlog.seen().bound);
+    write(&backlog, &mut much, backlog.bound());
     let looks = backlog.enter(4096, &mut little);
     let heavy = (backlog.is_heavy(&mut much), backlog.is_heavy(&mut little));
     let room = (backlog.has_room(true), backlog.has_room(false));
