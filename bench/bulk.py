@@ -1,22 +1,25 @@
 #!/usr/bin/env python3
 """What others keep beside a host that writes much more than the disk takes: arrayd, without and with a deadline, beside tgt where it
 is installed, or beside another build of itself. Each serves the same sparse files, in turn, to the same client on the loopback.
-The files lie on tmpfs below bench/page_cache.c, a page cache before a disk of 50 MB/s; or in the folder that --on names, as that
-of a file system on a slow disk, where the kernel's own limits hold. Prints a line for each row of PERFORMANCE, a bulk writer:
-256 KiB, 8 deep. It wants rustc and cc.
+The files lie on tmpfs below bench/page_cache.c, a page cache before a disk of 50 MB/s; with --loop on a file system on a loop
+device that the kernel's throttle holds to that pace, with vm.dirty_bytes of 256 MiB for the whole machine meanwhile: root may do
+that, where there is the cgroup `blkio` of version 1. Prints a line for each row and program; a bulk writer writes 256 KiB, 8 deep.
+It wants rustc and cc.
 
-usage: bench/bulk.py [--seconds N] [--runs N] [--only WORDS] [--before PROGRAM] [--pace BYTES] [--on FOLDER] [--without-tgt]
+usage: bench/bulk.py [--seconds N] [--runs N] [--only WORDS] [--before PROGRAM] [--pace BYTES] [--loop FOLDER] [--without-tgt]
 
 The program is $ARRAYD, or ./arrayd.
 """
 
 import argparse
+import contextlib
 import os
 import shutil
 import statistics
 import subprocess
 import sys
 import tempfile
+import threading
 import time
 
 from beside import Arrayd, Tgt
@@ -29,6 +32,41 @@ DEADLINE = "20"
 BULK = ("write", 262144, 8)
 # So long a bulk writer writes before others are measured.
 AHEAD = 2.0
+
+
+THROTTLE = "/sys/fs/cgroup/blkio/blkio.throttle.write_bps_device"
+LIMIT = "/proc/sys/vm/dirty_bytes"
+
+
+def put(path, text):
+    with open(path, "w") as file:
+        file.write(text)
+
+
+@contextlib.contextmanager
+def slow_folder(below, pace):
+    """A file system on a loop device over a file in this folder, which writes so many bytes a second."""
+    kept = {name: open(f"/proc/sys/vm/{name}").read() for name in ("dirty_ratio", "dirty_bytes")}
+    with tempfile.TemporaryDirectory(dir=below) as place:
+        image, folder = made(os.path.join(place, "image"), 8 << 21), os.path.join(place, "on")
+        os.mkdir(folder)
+        asked = ["losetup", "--find", "--show", "--direct-io=on", image]
+        device = subprocess.run(asked, check=True, capture_output=True, text=True).stdout.strip()
+        number = os.stat(device).st_rdev
+        number = f"{os.major(number)}:{os.minor(number)}"
+        try:
+            subprocess.run(["mkfs.ext4", "-q", "-E", "nodiscard,lazy_itable_init=0", device], check=True)
+            subprocess.run(["mount", device, folder], check=True)
+            put(LIMIT, str(256 << 20))
+            put(THROTTLE, f"{number} {pace}")
+            yield folder
+        finally:
+            put(THROTTLE, f"{number} 0")
+            for name, value in kept.items():
+                if int(value):
+                    put(f"/proc/sys/vm/{name}", value)
+            subprocess.run(["umount", folder])
+            subprocess.run(["losetup", "--detach", device])
 
 
 class Two(Arrayd):
@@ -49,10 +87,10 @@ class TgtOfTwo(Tgt):
 
 
 class Bench:
-    def __init__(self, place, asked):
-        self.client, self.seconds, self.on = client(place), asked.seconds, asked.on
-        self.folder, self.preloaded = asked.on, None
-        if not self.on:
+    def __init__(self, place, asked, on):
+        self.client, self.seconds, self.on = client(place), asked.seconds, on
+        self.folder, self.preloaded = on, None
+        if not on:
             self.folder = os.path.join(place, "disks")
             os.mkdir(self.folder)
             self.preloaded = {"LD_PRELOAD": library("bench/page_cache.c", place), "PAGE_CACHE": self.folder,
@@ -66,11 +104,10 @@ class Bench:
         for disk in self.disks:
             made(disk, SIZE // 512)
         if self.on:
-            # reads of pages that are in memory
+            # what is read is in memory
             for disk in self.disks:
-                with open(disk, "r+b") as file:
-                    file.write(bytes(CACHED))
-                    os.fsync(file.fileno())
+                with open(disk, "rb") as file:
+                    file.read(CACHED)
         os.environ.update(self.preloaded or {})
         try:
             return start(self.disks)
@@ -124,7 +161,6 @@ def keeps(bench, start, work, size, writers):
 def burst(bench, start):
     server = bench.serve(start)
     try:
-        began = time.monotonic()
         rate, worst = bench.run(server, *BULK, seconds="256x")
         return f"{rate * 262144 / 1e6:,.0f} MB/s, at most {worst:,.1f} ms" if rate else worst
     finally:
@@ -146,13 +182,15 @@ def flushed(bench, start, seconds):
     try:
         alone = bench.run(server, "read", 4096, 1, region=CACHED)
         bulk = bench.run(server, *BULK, seconds=seconds)
-        began = time.monotonic()
+        began, ends = time.monotonic(), []
         flush = bench.run(server, "flush", 4096, 1, seconds="1x", name=200, wait=False)
+        waiter = threading.Thread(target=lambda: ends.append((bench.told(flush), time.monotonic() - began)))
+        waiter.start()
         reader = bench.run(server, "read", 4096, 1, region=CACHED, name=300)
-        end = bench.told(flush)
-        took = time.monotonic() - began if not reader[0] or flush.poll() is None else 1 / end[0] if end[0] else 0
+        waiter.join()
+        end, took = ends[0]
         behind = bench.run(server, "read", 4096, 1, region=CACHED, seconds=1)
-        good = f"GOOD in {took:.1f} s" if end[0] else f"failed: {end[1]}"
+        good = f"GOOD in {took:.1f} s" if end[0] is not None else f"failed: {end[1]}"
         return f"alone {said(alone)}; bulk {said(bulk)}; flush {good}; reader meanwhile {said(reader)}; behind {said(behind)}"
     finally:
         server.end()
@@ -165,7 +203,7 @@ def main():
     words.add_argument("--only", default="", help="only rows with these words")
     words.add_argument("--before", help="another arrayd, in place of tgt")
     words.add_argument("--pace", type=int, default=50_000_000, help="bytes that the disk writes in a second")
-    words.add_argument("--on", help="a folder on a slow disk, in place of the library")
+    words.add_argument("--loop", help="a loop device over a file in this folder, in place of the library")
     words.add_argument("--without-tgt", action="store_true", help="arrayd alone")
     asked = words.parse_args()
     sides = [("arrayd", Two), ("arrayd with a deadline", lambda disks: Two(disks, deadline=DEADLINE))]
@@ -184,8 +222,10 @@ def main():
         ("flush behind 8 s of bulk", lambda b, s: flushed(b, s, 8)),
         ("flush behind 60 s of bulk", lambda b, s: flushed(b, s, 60)),
     ]
-    with tempfile.TemporaryDirectory(dir="/dev/shm") as place:
-        bench = Bench(place, asked)
+    with contextlib.ExitStack() as held:
+        place = held.enter_context(tempfile.TemporaryDirectory(dir="/dev/shm"))
+        on = held.enter_context(slow_folder(asked.loop, asked.pace)) if asked.loop else None
+        bench = Bench(place, asked, on)
         for row, run in rows:
             if asked.only not in row:
                 continue
