@@ -19,7 +19,7 @@ use disk_preparer::{OnDisk, Preparer};
 use event_log::{Event, Log, Resource};
 use portal::{
     Controllers, Disks, Gate, Lane, Prepared, Server, SmallStacks, TargetDevice, listen,
-    start_lanes,
+    start_flushers, start_lanes,
 };
 use scsi_types::Group;
 use std::alloc::Global;
@@ -158,6 +158,8 @@ impl<
         let mut stacks = SmallStacks;
         let first = start_lanes(rt, alloc, &self.server, Group::One, &mut stacks)?;
         let second = start_lanes(rt, alloc, &self.server, Group::Two, &mut stacks)?;
+        let units = self.server.device.units.units().count();
+        start_flushers(rt, &self.server, units, &mut stacks)?;
         let server = Arc::try_clone(&self.server)?;
         let Ok(administered) = Arc::new(alloc, AdministeredServer { server }) else {
             return Err(Fault::NoMemory);
@@ -191,7 +193,9 @@ impl<
             controllers: &server.device.units,
             log: &server.log,
         };
-        attend(alloc, reader, writer, &mut operated)
+        let ended = attend(alloc, reader, writer, &mut operated);
+        server.device.gate.close();
+        ended
     }
 }
 

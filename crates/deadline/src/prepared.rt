@@ -7,14 +7,14 @@ use crate::ahead::{Ahead, Hint, HintKind, has_edges};
 use crate::hatch::{Asker, FOR_ERRANDS};
 use crate::preparer_errand::{PreparerCall, PreparerErrand, PreparerRunner, behind};
 use crate::watch::Watch;
-use disk_preparer::{Beside, BlockMemory, Node, Preparer};
+use disk_preparer::{Account, Beside, BlockMemory, Node, Preparer};
 use event_log::Call;
 use std::alloc::Global;
 use std::io;
 use std::sync::atomic::{AtomicUsize, Ordering};
 use std::sync::{Arc, Mutex, MutexGuard, Wait};
 use std::thread::Threads;
-use std::time::Clock;
+use std::time::{Clock, Duration};
 
 /// So many calls that fetch blocks are made at a time, and so many flushes.
 const THREADS: usize = 16;
@@ -283,5 +283,21 @@ impl<R: Wait + Clock + Drop, P: Preparer> Preparer for DeadlinedPreparer<R, P> {
             Some(mut asker) => ask_by(&mut asker, PreparerCall::Flush, self.node, Call::Flush),
             None => false,
         }
+    }
+
+    // These call no file.
+    fn let_in(&self, bytes: u64, account: &mut Account, patience: Duration) {
+        if !self.watch.is_hung() {
+            self.preparer
+                .let_in(bytes, account, patience.min(self.watch.patience()));
+        }
+    }
+
+    fn await_flush(&self, among: u64) -> bool {
+        self.preparer.await_flush(among)
+    }
+
+    fn close(&self) {
+        self.preparer.close();
     }
 }

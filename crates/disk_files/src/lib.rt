@@ -4,6 +4,7 @@
 #![tactic(auto)]
 
 mod backing;
+mod backlog;
 mod beside;
 mod blocks;
 mod disk;
@@ -11,6 +12,7 @@ mod fault;
 mod file_log;
 mod file_preparer;
 mod flushes;
+mod kernel_limits;
 pub mod laws;
 mod named;
 mod node;
@@ -22,6 +24,7 @@ mod unit_file;
 mod writes;
 
 pub use backing::{BackingFile, Counted};
+pub use backlog::{Backlog, Begun};
 pub use blocks::{FileBlocks, blocks_in};
 pub use disk::{Disk, DiskLock, open_disk};
 pub use fault::{DiskFault, FileFault, RegistrationsFault};

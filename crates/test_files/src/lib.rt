@@ -5,6 +5,8 @@
 #[cfg(test)]
 mod ahead;
 #[cfg(test)]
+mod backlog;
+#[cfg(test)]
 mod beside;
 #[cfg(test)]
 mod calls;

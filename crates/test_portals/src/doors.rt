@@ -1,8 +1,9 @@
 //! The gate before the units of a test: its commands may wait before a unit, and flushes may be left to it.
 ghost use Rattle.std.specs.Prelude.{true};
 
+use disk_preparer::Account;
 use portal::{Gate, Pass};
-use scsi_types::Asked;
+use scsi_types::{Asked, Command};
 use std::sync::atomic::{AtomicUsize, Ordering};
 use std::sync::{Mutex, Wait};
 use test_memory::Latch;
@@ -64,6 +65,13 @@ impl<R: Wait + Drop> Gate for Doors<R> {
     ghost is_late = { true };
 
     ghost lasts = { λ pass. Unit {0} };
+
+    // A WRITE waits where it would wait for room.
+    fn let_in(&self, unit: usize, asked: &Asked, _account: &mut Account) {
+        if let Ok(Command::Write { .. }) = asked {
+            self.commands.wait_at(unit);
+        }
+    }
 
     fn fetch(&self, unit: usize, _serial: u64, _asked: &Asked) {
         self.commands.wait_at(unit);
