@@ -34,7 +34,7 @@ pub struct Happenings {
     /// Calls that failed on the disks of the units, and on their registration files.
     pub disks: [[u64; CALLS]; UNITS],
     pub registrations: [[u64; CALLS]; UNITS],
-    /// Calls on files of the units that took longer than the deadline, and files that became longer.
+    /// Files of the units of which a call hangs now, and files that became longer.
     pub hung: [u64; UNITS],
     pub grew: [u64; UNITS],
     /// How many blocks the disks of the units have.
@@ -70,6 +70,13 @@ fn raise_call(counts: &mut [[u64; CALLS]], unit: u8, call: Call) {
     }
 }
 
+// Counts one less at a place.
+fn lower(counts: &mut [u64], place: usize) {
+    if let Some(count) = counts.get_mut(place) {
+        *count = count.saturating_sub(1);
+    }
+}
+
 impl Happenings {
     /// Of no event.
     pub const fn none() -> Happenings {
@@ -96,6 +103,7 @@ impl Happenings {
                 raise_call(&mut self.registrations, *unit, *call);
             }
             Event::Hung(unit, _, _) => raise(&mut self.hung, usize::from(*unit)),
+            Event::Back(unit, _, _, _) => lower(&mut self.hung, usize::from(*unit)),
             Event::Grew(unit, _) => raise(&mut self.grew, usize::from(*unit)),
             _ => {}
         }
