@@ -34,6 +34,8 @@ struct OfUnit {
     disk: Vec<Tally>,
     registrations: Vec<Tally>,
     hung: Tally,
+    // How many of the latter have come back.
+    back: AtomicU64,
     grew: AtomicU64,
     blocks: AtomicU64,
 }
@@ -129,6 +131,7 @@ impl OfUnit {
             disk: unfailed(alloc)?,
             registrations: unfailed(alloc)?,
             hung: Tally::none(),
+            back: AtomicU64::new(0),
             grew: AtomicU64::new(0),
             blocks: AtomicU64::new(0),
         })
@@ -140,6 +143,12 @@ impl OfUnit {
             Part::Disk => &self.disk,
             Part::Registrations => &self.registrations,
         }
+    }
+
+    // A file of it is served again, on which a call had hung: each file tells that once for each time that it told of a hang.
+    fn came_back(&self, now: u64) {
+        let back = self.back.fetch_add(1, Ordering::Relaxed).wrapping_add(1);
+        self.hung.end(now, back);
     }
 
     fn seen(&self, alloc: Global) -> Result<UnitHappenings, AllocError> {
@@ -204,6 +213,11 @@ impl Ledger {
             Event::Hung(unit, _, _) => {
                 if let Some(of_unit) = self.units.get(usize::from(*unit)) {
                     of_unit.hung.fail(now, NOWHERE, 0);
+                }
+            }
+            Event::Back(unit, _, _, _) => {
+                if let Some(of_unit) = self.units.get(usize::from(*unit)) {
+                    of_unit.came_back(now);
                 }
             }
             Event::Grew(unit, _) => {
