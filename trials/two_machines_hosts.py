@@ -19,6 +19,7 @@ BLOCKS_OF_HOST = 64
 REGISTRANTS_ONLY, PREEMPT_AND_ABORT = 5, 5
 ISID = 0x400001370000
 MISCOMPARE = (0x0E, 0x1D, 0x00)
+READ_FAILED, WRITE_FAILED, SAVE_FAILED = (0x03, 0x11, 0x00), (0x03, 0x0C, 0x00), (0x04, 0x44, 0x00)
 LOST = (Closed, Refused, OSError)
 # A command that is not answered for so long ends with the connection: the machine is dead, and nobody may say so.
 SECONDS = 900
@@ -53,6 +54,7 @@ class Registrations:
             reply = host.paths[by].reserve_out(unit, action, kind, key, new_key, self.is_lasting)
             if reply.status == BUSY:
                 self.or_else = None
+            if reply.status == BUSY or reply.sense_key() == SAVE_FAILED:
                 raise Failed(reply)
             if (reply.status, reply.sense_key()) != wanted:
                 raise Wrong(f"{host.name} unit {unit}: action {action}: {told(reply)}, and not {wanted}")
@@ -92,13 +94,13 @@ class Host:
         """Its initiator port, as a TransportID names it, and the relative target port."""
         return f"{self.name},i,0x{ISID + by:012x}", by + 1
 
-    def log_in(self, base, until):
-        """Logs in by both controllers, tried again until this time."""
+    def log_in(self, base, until, address=HOST):
+        """Logs in by both controllers of an array there, tried again until this time."""
         self.close()
         for by, at in enumerate((CONTROLLER_1, CONTROLLER_2)):
             while True:
                 try:
-                    session = Session(HOST, base + at, TARGET, self.name, isid=ISID + by, timeout=SECONDS)
+                    session = Session(address, base + at, TARGET, self.name, isid=ISID + by, timeout=SECONDS)
                     for unit in UNITS:
                         session.ready(unit)
                     self.paths.append(session)
@@ -145,8 +147,10 @@ class Host:
             self.may(unit, at).append(count)
         try:
             path.write(unit, lba, data, fua)
-        except Failed:
-            self.never(unit, lba, blocks, count)
+        except Failed as failed:
+            # a device that failed may have done it, or may still do it
+            if failed.reply.status == BUSY:
+                self.never(unit, lba, blocks, count)
             raise
         self.good(unit, lba, blocks, count)
         if fua:
@@ -166,6 +170,8 @@ class Host:
                 self.never(unit, lba, 1, count)
             raise Failed(reply)
         found = reply.sense_key() if reply.status == CHECK_CONDITION else reply.status
+        if found in (READ_FAILED, WRITE_FAILED):
+            raise Failed(reply)
         if found != (MISCOMPARE if is_miss else GOOD):
             raise Wrong(f"{self.name} unit {unit} LBA {lba}: COMPARE AND WRITE: {told(reply)}")
         if is_miss:
@@ -257,10 +263,10 @@ class Hosts:
     def all(self):
         return [*self.nodes, self.fenced]
 
-    def log_in(self, base, seconds=120):
+    def log_in(self, base, seconds=120, address=HOST):
         until = time.monotonic() + seconds
         for host in self.all():
-            host.log_in(base, until)
+            host.log_in(base, until, address)
 
     def close(self):
         for host in self.all():
