@@ -379,13 +379,13 @@ def main():
     words.add_argument("--list", action="store_true")
     words.add_argument("crates", nargs="*", metavar="CRATE")
     given = words.parse_args()
-    if given.list:
-        print(*table_of(given.crates or needs()), sep="\n")
-        return
-    there = crates_with_edits()
+    there = needs() if given.list else crates_with_edits()
     for name in given.crates:
         if name not in there:
             sys.exit(f"wrong-bodies.sh: crates/{name} has no wrong bodies")
+    if given.list:
+        print(*table_of(given.crates or there), sep="\n")
+        return
     crates = given.crates or there
     with tempfile.TemporaryDirectory(prefix="wrong-bodies-") as room:
         sys.exit(0 if try_all(crates, room, max(1, min(given.lanes, len(crates)))) else 1)
