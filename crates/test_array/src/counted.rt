@@ -5,7 +5,7 @@ use event_log::{
     Place, Served, UnitHappenings,
 };
 use std::alloc::{AllocError, Global};
-use std::sync::Arc;
+use std::sync::{Arc, Wait};
 use std::test::*;
 use std::time::Duration;
 
@@ -113,8 +113,7 @@ fn text_of(alloc: Global, seen: &Happenings) -> Result<String, AllocError> {
 }
 
 // What is seen of two units behind these steps.
-fn seen_behind(rt: &HostRuntime, steps: &[Step]) -> Result<String, Fail> {
-    let alloc = rt.alloc();
+fn seen_behind<R: Wait>(rt: &R, alloc: Global, steps: &[Step]) -> Result<String, Fail> {
     let meters = Arc::new(alloc, Meters::new(alloc, 2)?)?;
     let log = Log::off().counting(meters);
     for step in steps {
@@ -177,7 +176,7 @@ fn what_failed_is_over_by_what_went_well(rt: HostRuntime) -> Result<(), Fail> {
         ),
     ];
     for (steps, wanted) in &rows {
-        let told = seen_behind(&rt, steps)?;
+        let told = seen_behind(&rt, rt.alloc(), steps)?;
         must(&rt, told.as_str() == *wanted, wanted, &told);
     }
     Ok(())
