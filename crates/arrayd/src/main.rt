@@ -9,6 +9,7 @@ mod administration;
 mod log_file;
 mod once;
 mod settings;
+mod target_name;
 mod told;
 
 use administration::Asked;
@@ -151,6 +152,9 @@ fn asked<
             Ok(()) => ExitCode::SUCCESS,
             Err(fault) => complain(rt, fault, ""),
         });
+    }
+    if !target_name::is_allowed(options.target) {
+        return Err(refuse(rt, alloc, Fault::WrongWords, "--target"));
     }
     match settings::unknown(rt) {
         Ok(None) => {}
