@@ -57,6 +57,14 @@ fn counting_log<R: Env + AllocGlobal + Files<File = File> + Clone + Drop>(
     Ok((asked.counted(alloc, log, units)?, file))
 }
 
+// The variable of the log's file, where that is what is wrong.
+fn variable_of(fault: Fault) -> &'static str {
+    match fault {
+        Fault::WrongWords => log_file::VARIABLE,
+        _ => "",
+    }
+}
+
 // Says on standard error why the program ends, and of what that is told, if of anything; its exit status.
 fn complain(rt: &impl Eprint, fault: Fault, of: &str) -> ExitCode
     ensures { exit_status result ≡ status_of fault }
@@ -198,10 +206,7 @@ fn main(rt: HostRuntime) -> ExitCode {
     let asked = &settings.asked;
     let (log, file) = match counting_log(&rt, alloc, asked, options.paths.len()) {
         Ok(found) => found,
-        Err(Fault::WrongWords) => {
-            return complain(&rt, Fault::WrongWords, log_file::VARIABLE);
-        }
-        Err(fault) => return complain(&rt, fault, ""),
+        Err(fault) => return complain(&rt, fault, variable_of(fault)),
     };
     // The types that the log's thread takes along are known here alone.
     if let Some(file) = file {
