@@ -227,7 +227,7 @@ class Run:
         """The files are as long as they were, hold what was read, and nothing else lies beside them."""
         for unit, disk in zip(self.units, self.disks):
             names = sorted(os.listdir(os.path.dirname(disk)))
-            if names != ["disk", "disk.reg"]:
+            if names != ["disk", "disk.reg", "disk.unit"]:
                 raise Wrong(f"beside the disk of unit {unit.number} lies {names}")
             with open(disk, "rb") as file:
                 data = file.read()

@@ -20,7 +20,9 @@ WRONG = "wrong words"
 ROWS = [
     ("", WRONG, "DISK"), ("--help disk", WRONG, "--help"), ("--once --version", WRONG, "--version"), ("--port 0 disk", WRONG, "--port"),
     ("--port 65529 disk", WRONG, "65529"), ("--portals 5 disk", WRONG, "--portals"), ("--array 4294967296 disk", WRONG, "4294967296"),
-    ("--host localhost disk", WRONG, "--host"), ("--target= disk", WRONG, "--target"), ("--once disk", WRONG, "DISK"),
+    ("--host localhost disk", WRONG, "--host"), ("--target= disk", WRONG, "--target"),
+    ("--target array disk", WRONG, "--target"), ("--target iqn.2000-01.Test:array disk", WRONG, "--target"),
+    ("--target iqn.2000-1.test:array disk", WRONG, "--target"), ("--target eui.0123456789abcde disk", WRONG, "--target"), ("--once disk", WRONG, "DISK"),
     ("1 2 3 4 5 6 7 8 9", WRONG, "DISK"), ("--onc", WRONG, "--onc"),
     ("none", "cannot use unit 0", "it is not there, errno 2: none"), ("odd", "cannot use unit 0", "its length is no multiple of 512: odd"),
     ("empty", "cannot use unit 0", "it is empty: empty"), ("disk none", "cannot use unit 1", "it is not there, errno 2: none"),

@@ -69,8 +69,10 @@ is 'nobody is told to quit twice' "$(console quit; echo $?)" 'arrayd-console: no
 3'
 is 'registration files lie beside the links' "$(ls "$place/state")" 'unit0
 unit0.reg
+unit0.unit
 unit1
-unit1.reg'
+unit1.reg
+unit1.unit'
 begin unit0 unit1
 is 'started anew, each unit is with its own controller' "$(sed 's/ generation.*//' "$place/status")" \
     'unit 0 owner 1 states 0 1

@@ -131,7 +131,8 @@ def files_where_a_registration_file_is_begun(folder):
     for path in (other, kept):
         with open(path, "rb") as file:
             is_so(path, (file.read(4), os.path.getsize(path)), (b"mine", 16 * 512))
-    is_so("nothing else is left", sorted(os.listdir(folder)), ["d", "d.reg", "d.reg.new", "d.reg.new.reg", "d.reg.new.reg.new", "kept"])
+    is_so("nothing else is left", sorted(os.listdir(folder)), ["d", "d.reg", "d.reg.new", "d.reg.new.reg", "d.reg.new.reg.new",
+                                                               "d.reg.new.unit", "d.unit", "kept"])
     for number in ("", *range(1, 10)):
         os.symlink("none", f"{kept}.reg.new{number}")
     is_so("where all names are taken", ended([kept]), (1, "arrayd: cannot use registration file 0"))

@@ -9,6 +9,7 @@ mod administration;
 mod log_file;
 mod once;
 mod settings;
+mod target_name;
 mod told;
 
 use administration::Asked;
@@ -54,6 +55,14 @@ fn counting_log<R: Env + AllocGlobal + Files<File = File> + Clone + Drop>(
 ) -> Result<(Log, Option<LogFile<R>>), Fault> {
     let (log, file) = asked_log(rt, alloc)?;
     Ok((asked.counted(alloc, log, units)?, file))
+}
+
+// The variable of the log's file, where that is what is wrong.
+fn variable_of(fault: Fault) -> &'static str {
+    match fault {
+        Fault::WrongWords => log_file::VARIABLE,
+        _ => "",
+    }
 }
 
 // Says on standard error why the program ends, and of what that is told, if of anything; its exit status.
@@ -152,6 +161,9 @@ fn asked<
             Err(fault) => complain(rt, fault, ""),
         });
     }
+    if !target_name::is_allowed(options.target) {
+        return Err(refuse(rt, alloc, Fault::WrongWords, "--target"));
+    }
     match settings::unknown(rt) {
         Ok(None) => {}
         Ok(Some(name)) => return Err(refuse(rt, alloc, Fault::WrongWords, name.as_str())),
@@ -194,10 +206,7 @@ fn main(rt: HostRuntime) -> ExitCode {
     let asked = &settings.asked;
     let (log, file) = match counting_log(&rt, alloc, asked, options.paths.len()) {
         Ok(found) => found,
-        Err(Fault::WrongWords) => {
-            return complain(&rt, Fault::WrongWords, log_file::VARIABLE);
-        }
-        Err(fault) => return complain(&rt, fault, ""),
+        Err(fault) => return complain(&rt, fault, variable_of(fault)),
     };
     // The types that the log's thread takes along are known here alone.
     if let Some(file) = file {
