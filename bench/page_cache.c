@@ -2,18 +2,21 @@
  * the folder that PAGE_CACHE names, which are one disk together. A write goes into memory. The disk writes CACHE_PACE bytes a
  * second, while a flush waits or more than CACHE_BACKGROUND bytes are not written; a flush waits until the disk has written what
  * was there when it began. Where more than the middle between CACHE_BACKGROUND and CACHE_LIMIT is not written, a write waits until
- * the disk has taken as much, as the kernel has it (balance_dirty_pages). Reads never wait: their pages are in memory.
+ * the disk has taken as much, as the kernel has it (balance_dirty_pages). Reads never wait: their pages are in memory. The program
+ * finds these limits where the kernel says its own, in /proc/sys/vm.
  *
  * cc -O2 -shared -fPIC -o page_cache.so bench/page_cache.c */
 #define _GNU_SOURCE
 #include <dlfcn.h>
+#include <fcntl.h>
 #include <limits.h>
 #include <pthread.h>
+#include <stdarg.h>
 #include <stdatomic.h>
-#include <stdint.h>
 #include <stdio.h>
 #include <stdlib.h>
 #include <string.h>
+#include <sys/mman.h>
 #include <sys/stat.h>
 #include <sys/uio.h>
 #include <time.h>
@@ -35,6 +38,8 @@ static ssize_t (*real_pwritev)(int, const struct iovec *, int, off64_t);
 static int (*real_fdatasync)(int);
 static int (*real_fsync)(int);
 static int (*real_close)(int);
+static int (*real_open)(const char *, int, ...);
+static int (*real_openat)(int, const char *, int, ...);
 
 static double number(const char *name, double otherwise)
 {
@@ -49,6 +54,8 @@ __attribute__((constructor)) static void begin(void)
     real_fdatasync = dlsym(RTLD_NEXT, "fdatasync");
     real_fsync = dlsym(RTLD_NEXT, "fsync");
     real_close = dlsym(RTLD_NEXT, "close");
+    real_open = dlsym(RTLD_NEXT, "open64");
+    real_openat = dlsym(RTLD_NEXT, "openat64");
     const char *word = getenv("PAGE_CACHE");
     if (word == NULL || realpath(word, folder) == NULL) {
         fprintf(stderr, "PAGE_CACHE names no folder\n");
@@ -179,3 +186,39 @@ int close(int fd)
         descriptors[fd] = 0;
     return real_close(fd);
 }
+
+/* A file that says a limit as the kernel's does; -1 where the path is not of one. */
+static int limit_of(const char *path)
+{
+    static const char folder_of_limits[] = "/proc/sys/vm/dirty_";
+    if (strncmp(path, folder_of_limits, sizeof folder_of_limits - 1) != 0)
+        return -1;
+    const char *name = path + sizeof folder_of_limits - 1;
+    double says = strcmp(name, "bytes") == 0 ? limit : strcmp(name, "background_bytes") == 0 ? background : 0;
+    int fd = memfd_create(name, 0);
+    if (fd >= 0)
+        dprintf(fd, "%.0f\n", says);
+    return fd;
+}
+
+int open64(const char *path, int flags, ...)
+{
+    va_list more;
+    va_start(more, flags);
+    int mode = flags & (O_CREAT | O_TMPFILE) ? va_arg(more, int) : 0;
+    va_end(more);
+    int fd = limit_of(path);
+    return fd >= 0 ? fd : real_open(path, flags, mode);
+}
+ALSO(open, open64);
+
+int openat64(int at, const char *path, int flags, ...)
+{
+    va_list more;
+    va_start(more, flags);
+    int mode = flags & (O_CREAT | O_TMPFILE) ? va_arg(more, int) : 0;
+    va_end(more);
+    int fd = limit_of(path);
+    return fd >= 0 ? fd : real_openat(at, path, flags, mode);
+}
+ALSO(openat, openat64);

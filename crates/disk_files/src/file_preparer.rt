@@ -11,7 +11,7 @@ use crate::backing::BackingFile;
 use crate::backlog::Backlog;
 use crate::file_log::FileLog;
 use crate::flushes::{FlushFault, Flushes, LastingFile};
-use crate::kernel_limits::KernelLimits;
+use crate::kernel_limits::free_to_write;
 use crate::system::SystemFile;
 use block_file::BLOCK_LENGTH;
 use disk_preparer::{Account, Beside, BlockMemory, Node, PAGE_BLOCKS, Preparer};
@@ -87,9 +87,9 @@ pub struct FilePreparer<R: Clock + Wait + Drop, F: LastingFile> {
     slow: AtomicU64,
     // The serial of the WRITE that came last, of whatever session.
     last: AtomicU64,
-    // What was written and is not flushed, and how much the kernel lets be.
+    // What was written and is not flushed, and how much the kernel let be when the file was opened.
     backlog: Backlog,
-    limits: KernelLimits,
+    free: u64,
     ghost own: { IfSome file (λ f. f.node ≡ node) } by { Prim.hlevel props },
 }
 
@@ -104,7 +104,7 @@ impl<R: Clock + Wait + Drop, F: LastingFile + Drop> Drop for FilePreparer<R, F> 
             slow: _,
             last: _,
             backlog: _,
-            limits: _,
+            free: _,
         } = self;
     }
 }
@@ -127,7 +127,7 @@ impl<R: Clock + Wait + Files<File = File> + Drop> FilePreparer<R, SystemFile> {
         let node = blocks.node();
         let file = again(&rt, path, node);
         let flushes = shared(alloc, &rt, path, blocks);
-        let limits = KernelLimits::open(&rt);
+        let free = free_to_write(&rt);
         FilePreparer {
             rt,
             node,
@@ -136,8 +136,8 @@ impl<R: Clock + Wait + Files<File = File> + Drop> FilePreparer<R, SystemFile> {
             flushes,
             slow: AtomicU64::new(0),
             last: AtomicU64::new(0),
-            backlog: Backlog::new(limits.free()),
-            limits,
+            backlog: Backlog::new(free),
+            free,
         }
     }
 }
@@ -535,7 +535,7 @@ impl<R: Clock + Wait + Drop, F: LastingFile> Preparer for FilePreparer<R, F> {
             return false;
         };
         for _ in self.rt.forever() {
-            self.backlog.bind(self.limits.free(), among);
+            self.backlog.bind(self.free, among);
             let is_due = self
                 .backlog
                 .await_due(&self.rt, Duration::from_millis(NOW_AND_THEN));

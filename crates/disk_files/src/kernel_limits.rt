@@ -10,16 +10,6 @@ const ROOM: usize = 256;
 /// What programs are free to write where the kernel does not say it.
 const UNKNOWN: u64 = 256 << 20;
 
-/// The files that say it, open for as long as they are looked at.
-#[derive(Drop)]
-pub(crate) struct KernelLimits {
-    limit: Option<File>,
-    limit_ratio: Option<File>,
-    background: Option<File>,
-    background_ratio: Option<File>,
-    memory: Option<File>,
-}
-
 // The number that digits spell behind what is no digit, where there are any.
 fn number_in(bytes: &[u8]) -> Option<u64> {
     let mut found = None;
@@ -47,11 +37,9 @@ fn behind<'a>(bytes: &'a [u8], word: &[u8]) -> Option<&'a [u8]> {
     bytes.get(at..)
 }
 
-// The number that a file says behind this word, where it says one.
-fn said(file: &Option<File>, word: &[u8]) -> Option<u64> {
-    let Some(file) = file else {
-        return None;
-    };
+// The number that the file of this name says behind this word, where it says one.
+fn said<R: Files<File = File>>(rt: &R, path: &str, word: &[u8]) -> Option<u64> {
+    let file = File::open(rt, path).ok()?;
     let mut room = [0; ROOM];
     let length = file.read_at(&mut room, 0).ok()?;
     let bytes = room.get(..length)?;
@@ -69,8 +57,8 @@ fn bytes_of(bytes: Option<u64>, ratio: Option<u64>, memory: u64) -> Option<u64> 
     }
 }
 
-/// How many bytes programs write without a wait where the kernel's limits are these: it has none wait before the middle between the one
-/// at which it begins to write by itself and the one that it never passes.
+// How many bytes programs write without a wait where the kernel's limits are these: it has none wait before the middle between the one
+// at which it begins to write by itself and the one that it never passes.
 fn free_between(background: u64, limit: u64) -> u64 {
     let background = if background < limit {
         background
@@ -80,32 +68,17 @@ fn free_between(background: u64, limit: u64) -> u64 {
     background / 2 + limit / 2
 }
 
-impl KernelLimits {
-    /// Opens the files that say it.
-    pub(crate) fn open<R: Files<File = File>>(rt: &R) -> KernelLimits {
-        KernelLimits {
-            limit: File::open(rt, "/proc/sys/vm/dirty_bytes").ok(),
-            limit_ratio: File::open(rt, "/proc/sys/vm/dirty_ratio").ok(),
-            background: File::open(rt, "/proc/sys/vm/dirty_background_bytes").ok(),
-            background_ratio: File::open(rt, "/proc/sys/vm/dirty_background_ratio").ok(),
-            memory: File::open(rt, "/proc/meminfo").ok(),
-        }
-    }
+// What it says, where it does.
+fn look<R: Files<File = File>>(rt: &R) -> Option<u64> {
+    let memory = said(rt, "/proc/meminfo", b"MemAvailable:")?.saturating_mul(1024);
+    let bytes = said(rt, "/proc/sys/vm/dirty_bytes", b"");
+    let limit = bytes_of(bytes, said(rt, "/proc/sys/vm/dirty_ratio", b""), memory)?;
+    let bytes = said(rt, "/proc/sys/vm/dirty_background_bytes", b"");
+    let ratio = said(rt, "/proc/sys/vm/dirty_background_ratio", b"");
+    Some(free_between(bytes_of(bytes, ratio, memory)?, limit))
+}
 
-    // What it says now, where it does.
-    fn look(&self) -> Option<u64> {
-        let memory = said(&self.memory, b"MemAvailable:")?.saturating_mul(1024);
-        let limit = bytes_of(said(&self.limit, b""), said(&self.limit_ratio, b""), memory)?;
-        let background = bytes_of(
-            said(&self.background, b""),
-            said(&self.background_ratio, b""),
-            memory,
-        )?;
-        Some(free_between(background, limit))
-    }
-
-    /// How many bytes programs are free to write and not to flush now.
-    pub(crate) fn free(&self) -> u64 {
-        self.look().unwrap_or(UNKNOWN)
-    }
+/// How many bytes programs are free to write and not to flush now.
+pub(crate) fn free_to_write<R: Files<File = File>>(rt: &R) -> u64 {
+    look(rt).unwrap_or(UNKNOWN)
 }

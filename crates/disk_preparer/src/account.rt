@@ -1,5 +1,8 @@
 //! What a session has written to a disk of late.
 
+/// So many microseconds a session makes up for.
+const LATE: u64 = 50_000;
+
 /// What a session has written to a disk of late, in bytes. It has one command at a time, so what it wrote before has ended when
 /// it writes again.
 #[derive(Clone, Copy)]
@@ -67,9 +70,10 @@ impl Account {
         is_new
     }
 
-    /// For how many microseconds its turn is ahead, behind a write that takes so many of them.
+    /// For how many microseconds its turn is ahead, behind a write that takes so many of them. Where it has slept longer than it was to,
+    /// it makes up for some of that.
     pub fn ahead(&mut self, now: u64, cost: u64) -> u64 {
-        self.turn = self.turn.max(now).saturating_add(cost);
+        self.turn = self.turn.max(now.saturating_sub(LATE)).saturating_add(cost);
         self.turn.saturating_sub(now)
     }
 }
