@@ -2,6 +2,7 @@
 mod ahead;
 mod beside;
 mod calls;
+mod deadlines;
 pub mod fake;
 mod flushes;
 mod memory;
