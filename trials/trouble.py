@@ -18,7 +18,7 @@ import threading
 import time
 
 from cases import (
-    ISID, Cases, Mounted, NotHere, end_of, fill, flush, is_so, lines, login, read, refusal, root, run, write,
+    ISID, Cases, Mounted, NotHere, end_of, fill, flush, is_so, lines, login, read, refusal, root, run, until, write,
 )
 from failing import Failing, is_there
 from free_port import free_port
@@ -820,6 +820,23 @@ def hung(folder):
             is_so("the system's own calls came back, and the process is gone", array.process.wait(20), 3)
         told = [line.split("event=", 1)[1] for line in lines(log, "hung")]
         is_so("the log", told, ["hung unit=0 file=disk call=write", "hung unit=0 file=registrations call=write"])
+
+
+@case
+def hung_and_back(folder):
+    with Mounted(folder) as place:
+        log = folder + "/log"
+        with Array(place.that_hangs(), log=log, more={"ARRAYD_DEADLINE": "2"}) as array:
+            session = login()
+            is_so("writes and flushes", (write(session), flush(session)), (GOOD, GOOD))
+            with place.frozen():
+                is_so("a write", write(session, text=b"late"), "03 0C/00")
+                is_so("registrations", end_of(session.reserve_out(0, 6, new_key=1, aptpl=True)), "04 44/00")
+            is_so("it comes back", until(lambda: len(lines(log, "back")) == 2), True)
+            is_so("then", (write(session), read(session), flush(session)), (GOOD, GOOD, GOOD))
+            is_so("registrations", end_of(session.reserve_out(0, 6, new_key=1, aptpl=True)), GOOD)
+            is_so("a host that asks", take(login(2, 1), 2), GOOD)
+            array.quit()
 
 
 @case

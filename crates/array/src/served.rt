@@ -26,6 +26,7 @@ use std::alloc::Global;
 use std::fs::File;
 use std::io::{BufRead, Write};
 use std::marker::Brand;
+use std::mem;
 use std::net::{Net, SocketAddrV4, TcpListener, TcpStream};
 use std::random::RandomSource;
 use std::rt::Files;
@@ -280,8 +281,8 @@ fn serve_named<
         Err(fault) => Err(fault),
     };
     event_log::close(rt, log);
-    // They live as long as the array is served.
-    drop(locks);
+    // They live as long as the process: a call of the system that hangs may still reach a file.
+    mem::forget(locks);
     ended
 }
 

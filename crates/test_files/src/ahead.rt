@@ -1,6 +1,7 @@
 //! What is read ahead, where the calls of a disk have a deadline: of READs that came together a thread is asked for the first one, and
 //! reads for the others behind its answer.
-ghost use Rattle.std.specs.Prelude.{false};
+ghost use Rattle.std.specs.Prelude.{◌≡◌, false};
+ghost use Rattle.std.specs.Arc.{arc_value};
 
 use crate::ends::{fail, must};
 use crate::runs::{clean, folder, path_of, sized, writes};
@@ -95,8 +96,16 @@ fn taken<B: Blocks, P: Preparer>(
 }
 
 // A watch over a disk.
-fn watch(rt: &impl Abort, alloc: Global) -> Arc<Watch, Global> {
-    let watch = Watch::new(Duration::from_secs(PATIENCE), Log::off(), 0, Part::Disk);
+fn watch(rt: &impl Abort, alloc: Global, disk: Node) -> Arc<Watch, Global>
+    ensures { (arc_value result).node ≡ disk }
+{
+    let watch = Watch::new(
+        Duration::from_secs(PATIENCE),
+        Log::off(),
+        0,
+        Part::Disk,
+        disk,
+    );
     Arc::new(alloc, watch).expect(rt, "memory")
 }
 
@@ -111,7 +120,8 @@ fn what_is_read_ahead_is_taken_unless_a_write_has_come_back_since(rt: HostRuntim
     let mut blocks = FileBlocks::open(&rt, path).expect(&rt, path);
     let mut other = FileBlocks::open(&rt, path).expect(&rt, path);
     let by = FilePreparer::open(rt, alloc, path, &mut blocks, None);
-    let (disk, watch) = (blocks.node(), watch(&rt, alloc));
+    let disk = blocks.node();
+    let watch = watch(&rt, alloc, disk);
     let preparer = DeadlinedPreparer::start(&rt, alloc, by, disk, &watch).expect(&rt, "threads");
     if blocks.count() == 0 {
         fail(&rt, path, &"no blocks");
@@ -217,7 +227,7 @@ fn the_first_block_that_is_read_ahead_is_looked_at(rt: HostRuntime) {
         disk: NO_FILE,
         seen: Arc::try_clone(&seen).expect(&rt, "memory"),
     };
-    let watch = watch(&rt, alloc);
+    let watch = watch(&rt, alloc, NO_FILE);
     let preparer = DeadlinedPreparer::start(&rt, alloc, by, NO_FILE, &watch).expect(&rt, "threads");
     must(&rt, first(alloc, &preparer).is_some(), "block 1", &());
     let looks = looks(&rt, &seen);

@@ -11,6 +11,8 @@ mod beside;
 #[cfg(test)]
 mod calls;
 #[cfg(test)]
+mod deadlines;
+#[cfg(test)]
 mod ends;
 #[cfg(test)]
 mod fake;
