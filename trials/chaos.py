@@ -19,7 +19,8 @@ usage: trials/chaos.py [--seeds N] [--from SEED] [--jobs J]       N seeds, 50 wh
 
 `--locks` tells of each lock how often it was taken, and how long it was held; `--comes-back` expects a disk that hung past its deadline
 to serve again. The program is ./arrayd, or what ARRAYD names. Locks are seen in one that tools/unproved.py compiled; in another one
-only the calls of the system are stood at. Wants a C compiler and the GNU C library.
+only the calls of the system are stood at. Histories are left in the folder CHAOS_HISTORIES, where that is set. Wants a C compiler and
+the GNU C library.
 """
 
 import argparse
@@ -28,6 +29,7 @@ import concurrent.futures
 import contextlib
 import functools
 import os
+import pickle
 import random
 import sys
 import tempfile
@@ -39,7 +41,7 @@ from chaos_model import ATTACH, READ, RESTART, Op, Unit
 from chaos_run import FAULTS, Chaos, Names, library
 from free_port import free_port
 from initiator import BUSY
-from locks import class_of, found_wrong
+from locks import classes_of, found_wrong
 from orders import order_of, why_not
 from reservations import NEXUSES
 from running import ARRAYD, TOP, Array, Wrong, made
@@ -143,7 +145,7 @@ class Run:
             ring = self.chaos.cycle()
             if ring:
                 self.findings.append("these threads wait for each other: " + ", ".join(map(str, ring)))
-            self.findings += [f"  {line}" for line in self.chaos.told_of_threads(self.names, class_of)]
+            self.findings += [f"  {line}" for line in self.chaos.told_of_threads(self.names, classes_of(self.chaos, self.names))]
         self.load.is_over = True
         self.kill(array, threads)
 
@@ -204,13 +206,18 @@ class Run:
                             takes=sum(site.takes for site in self.chaos.sites()), faults=seen.faults_made)
         if seen.hooked:
             self.findings += found_wrong(self.chaos, self.names)
+            classes = classes_of(self.chaos, self.names)
             for site in self.chaos.sites():
-                name = class_of(self.names.of_site(site))
+                name = classes[site.key]
                 takes, longest = self.locks.get(name, (0, 0))
                 self.locks[name] = takes + site.takes, max(longest, site.longest)
         self.chaos.close()
 
     def look_at_orders(self):
+        kept = os.environ.get("CHAOS_HISTORIES")
+        if kept:
+            with open(os.path.join(kept, f"{self.seed}.pickle"), "wb") as file:
+                pickle.dump(self.load.ops, file)
         for unit, ops in enumerate(self.load.ops):
             order = order_of(ops, Unit(unit, BLOCKS, self.may_fail and unit == 0, self.comes_back))
             if not order.is_found:
