@@ -7,13 +7,14 @@ came of it, are looked at once.
 
 Three things keep it short. Who asks one after the other is answered in this order (docs/PROFILE.md), so only the next of each lane is
 looked at. And what may come next, and answered so would leave the unit as it is at any time, comes at once: an order with it later is
-one with it here too. And each number is written once: what somebody has still to find in a block is not overwritten.
+one with it here too. And each number is written once: what somebody has still to find in a block is not overwritten, nor is its
+write left behind.
 What was not answered may have been done, or not.
 """
 
 import collections
 
-from chaos_model import COMPARE, DOWN, FLUSH, IN, MISCOMPARE, OUT, READ, READY, RESET, SET, STATES, UP, WRITE
+from chaos_model import ATTACH, COMPARE, DOWN, FLUSH, IN, MISCOMPARE, OUT, READ, READY, RESET, RESTART, SET, STATES, UP, WRITE
 from initiator import BUSY, CHECK_CONDITION, GOOD, RESERVATION_CONFLICT
 
 # So many states at most; a history that needs more is told as one that was not decided.
@@ -36,7 +37,8 @@ def may_be_seen(op, found):
     """Whether others may see that this was done, though it was not answered: a write where one of its numbers was found, or where
     somebody found a difference; a login is seen by nobody, who has no answer to it."""
     if op.kind in (WRITE, COMPARE):
-        return any(number in found for number in op.given[-1]) or None in found
+        blocks = range(op.given[0], op.given[0] + len(op.given[-1]))
+        return any(number in found for number in op.given[-1]) or any(("in", block) in found for block in blocks)
     return op.kind in (OUT, SET, RESET, DOWN, UP)
 
 
@@ -45,9 +47,7 @@ def lanes_of(ops):
     lanes = collections.defaultdict(list)
     for op in sorted(ops, key=lambda one: one.start):
         lanes[op.lane].append(op)
-    found = {number for op in ops for _, number in found_by(op)}
-    if any(op.reply and op.reply[1] == MISCOMPARE for op in ops):
-        found.add(None)
+    found = numbers_found(ops) | {("in", op.given[0] + op.reply[2] // 512) for op in ops if op.reply and op.reply[1] == MISCOMPARE}
     for lane in lanes.values():
         while lane and lane[-1].end is None and not may_be_seen(lane[-1], found):
             lane.pop()
@@ -62,9 +62,13 @@ def found_by(op):
     return []
 
 
+def numbers_found(ops):
+    return {number for op in ops for _, number in found_by(op)}
+
+
 class Search:
     def __init__(self, ops, unit):
-        self.lanes = lanes_of(ops)
+        self.lanes, self.found = lanes_of(ops), numbers_found(ops)
         # who found this number in this block: their lane and their place in it
         self.finders = collections.defaultdict(list)
         for lane, ops_ in enumerate(self.lanes):
@@ -101,12 +105,23 @@ class Search:
             old != new and place >= at[lane] for block, (old, new) in enumerate(zip(unit.blocks, then.blocks))
             for lane, place in self.finders.get((block, old), ()))
 
+    def must_be(self, op):
+        """Whether this was done, answered or not."""
+        return op.end is not None and not op.is_optional or op.kind in (WRITE, COMPARE) and any(n in self.found for n in op.given[-1])
+
+    def cuts_off(self, at, op):
+        """Whether a login in another's place, or a restart, leaves behind what has still to come."""
+        if op.kind not in (ATTACH, RESTART):
+            return False
+        return any(self.must_be(other) for lane, place in zip(self.lanes, at) for other in lane[place:] if other is not op and other.nexus
+                   and (other.start < op.start if op.kind == RESTART else other.nexus == op.nexus and other.session < op.session))
+
     def choices(self, at, unit):
         """What may come next, with the unit behind it; the first to be tried last."""
         found = []
         for lane, op in self.heads(at):
             then = unit.copy()
-            if then.apply(op) and not self.overwrites(self.moved(at, lane), unit, then):
+            if then.apply(op) and not self.overwrites(self.moved(at, lane), unit, then) and not self.cuts_off(at, op):
                 found.append((self.moved(at, lane), then, op))
             if op.is_optional:
                 found.append((self.moved(at, lane), unit, None))
