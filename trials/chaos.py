@@ -15,11 +15,13 @@ Ends with status 1 where something was found; each line of that has its seed.
 usage: trials/chaos.py [--seeds N] [--from SEED] [--jobs J]       N seeds, 50 where nothing is said
        trials/chaos.py --seed SEED [--times N]                    one of them, N times, with what was seen
        trials/chaos.py --found                                    those of trials/chaos_found.txt, which once found something
-       trials/chaos.py --planted [FAULT..]                        has to find what is planted, within 50 seeds each
+       trials/chaos.py --planted [NAME..]                         has to find what is planted, within 50 seeds each: by the library, or
+                                                                  in copies of the tree (trials/chaos_plants.py)
 
-`--locks` tells of each lock how often it was taken, and how long it was held; `--comes-back` expects a disk that hung past its deadline
+`--first` ends with the first that is found. `--locks` tells of each lock how often it was taken, and how long it was held; `--comes-back` expects a disk that hung past its deadline
 to serve again. The program is ./arrayd, or what ARRAYD names. Locks are seen in one that tools/unproved.py compiled; in another one
-only the calls of the system are stood at. Wants a C compiler and the GNU C library.
+only the calls of the system are stood at. Histories are left in the folder CHAOS_HISTORIES, where that is set. Wants a C compiler and
+the GNU C library.
 """
 
 import argparse
@@ -28,7 +30,9 @@ import concurrent.futures
 import contextlib
 import functools
 import os
+import pickle
 import random
+import subprocess
 import sys
 import tempfile
 import threading
@@ -36,10 +40,11 @@ import time
 
 from chaos_hosts import BLOCKS, UNITS, Host, Load, Operator, last_look, numbers_in
 from chaos_model import ATTACH, READ, RESTART, Op, Unit
+from chaos_plants import PLANTS, compile_with
 from chaos_run import FAULTS, Chaos, Names, library
 from free_port import free_port
 from initiator import BUSY
-from locks import class_of, found_wrong
+from locks import classes_of, found_wrong
 from orders import order_of, why_not
 from reservations import NEXUSES
 from running import ARRAYD, TOP, Array, Wrong, made
@@ -58,7 +63,7 @@ def flavour_of(seed):
     return {"out": dice.choice((0, 6, 14)), "leaves": dice.choice((0, 0.03, 0.1)), "reset": dice.choice((0, 1, 3)), "set": dice.choice((0, 1, 3)),
             "operator": dice.choice((0, 5, 10)), "count": dice.choice((15, 25, 40)), "hosts": dice.choice((4, 6, 8)),
             "hangs": hangs, "deadline": deadline, "restart": dice.random() < 0.3,
-            "permille": dice.choice((10, 40, 120)), "stops": dice.random() < 0.8}
+            "permille": dice.choice((10, 40, 120)), "stops": dice.random() < 0.8, "log": dice.random() < 0.5}
 
 
 class Run:
@@ -75,6 +80,8 @@ class Run:
     def start(self):
         self.chaos = Chaos(self.folder, self.built, self.seed, self.flavour["permille"], self.flavour["stops"], self.fault)
         more = {**self.chaos.environment, "ARRAYD_CONTROL": os.path.join(self.folder, "control")}
+        if self.flavour["log"]:
+            more["ARRAYD_LOG"] = os.path.join(self.folder, "log")
         if self.flavour["deadline"]:
             more["ARRAYD_DEADLINE"] = "1" if self.flavour["hangs"] else "20"
         for attempt in range(3):
@@ -82,7 +89,7 @@ class Run:
                 # that of a life that was killed
                 os.unlink(more["ARRAYD_CONTROL"])
             try:
-                return Array(self.disks, port=free_port(), more=more)
+                return Array(self.disks, port=free_port(), log=more.get("ARRAYD_LOG"), more=more)
             except Wrong:
                 # another one took the port meanwhile
                 if attempt == 2:
@@ -143,7 +150,7 @@ class Run:
             ring = self.chaos.cycle()
             if ring:
                 self.findings.append("these threads wait for each other: " + ", ".join(map(str, ring)))
-            self.findings += [f"  {line}" for line in self.chaos.told_of_threads(self.names, class_of)]
+            self.findings += [f"  {line}" for line in self.chaos.told_of_threads(self.names, classes_of(self.chaos, self.names))]
         self.load.is_over = True
         self.kill(array, threads)
 
@@ -204,13 +211,18 @@ class Run:
                             takes=sum(site.takes for site in self.chaos.sites()), faults=seen.faults_made)
         if seen.hooked:
             self.findings += found_wrong(self.chaos, self.names)
+            classes = classes_of(self.chaos, self.names)
             for site in self.chaos.sites():
-                name = class_of(self.names.of_site(site))
+                name = classes[site.key]
                 takes, longest = self.locks.get(name, (0, 0))
                 self.locks[name] = takes + site.takes, max(longest, site.longest)
         self.chaos.close()
 
     def look_at_orders(self):
+        kept = os.environ.get("CHAOS_HISTORIES")
+        if kept:
+            with open(os.path.join(kept, f"{self.seed}.pickle"), "wb") as file:
+                pickle.dump(self.load.ops, file)
         for unit, ops in enumerate(self.load.ops):
             order = order_of(ops, Unit(unit, BLOCKS, self.may_fail and unit == 0, self.comes_back))
             if not order.is_found:
@@ -289,14 +301,25 @@ def many(seeds, words, built):
     return not found
 
 
-def planted(fault, words, built):
-    """Whether what is planted is found within 50 seeds."""
-    for count, result in enumerate(each(range(1, 51), built, words.jobs, fault), 1):
+def first_found(words, built, fault=None):
+    """The first line of what is found, with the seed, and how many were tried; within as many seeds as there may be."""
+    for count, result in enumerate(each(range(words.first, words.first + words.seeds), built, words.jobs, fault, words.comes_back), 1):
         if result.findings:
-            print(f"{fault}: found by seed {result.seed}, the {count}. of them: {result.findings[0].splitlines()[0]}", flush=True)
-            return True
-    print(f"{fault}: NOT found by 50 seeds")
-    return False
+            return f"found by seed {result.seed}, the {count}. of them: " + "; ".join(one.splitlines()[0] for one in result.findings[:2])
+    return ""
+
+
+def planted(name, words, built, folder):
+    """Whether what is planted is found: by the library, or in a program of its own."""
+    if name in FAULTS:
+        told = first_found(words, built, name)
+    else:
+        program = os.path.join(folder, name)
+        compile_with(name, program)
+        again = [sys.executable, os.path.abspath(__file__), "--first", "--seeds", str(words.seeds), "--jobs", str(words.jobs)]
+        told = subprocess.run(again, env={**os.environ, "ARRAYD": program}, stdout=subprocess.PIPE, text=True, check=False).stdout.strip()
+    print(f"{name}: {told or 'NOT found'}", flush=True)
+    return bool(told)
 
 
 def seeds_found():
@@ -310,14 +333,19 @@ def main():
         words.add_argument(name, type=int, default=default, dest=name.strip("-") if name != "--from" else "first")
     for name in ("--found", "--locks", "--comes-back"):
         words.add_argument(name, action="store_true")
-    words.add_argument("--planted", nargs="*", choices=[*FAULTS], default=None)
+    words.add_argument("--first", action="store_true", dest="only_first")
+    words.add_argument("--planted", nargs="*", choices=[*FAULTS, *PLANTS], default=None)
     words = words.parse_args()
     if not os.path.isfile(ARRAYD):
         sys.exit(f"chaos.py: there is no program {ARRAYD}")
     with tempfile.TemporaryDirectory() as folder:
         built = library(folder)
         if words.planted is not None:
-            is_well = all([planted(fault, words, built) for fault in words.planted or FAULTS])
+            is_well = all([planted(name, words, built, folder) for name in words.planted or (*FAULTS, *PLANTS)])
+        elif words.only_first:
+            told = first_found(words, built)
+            print(told, end="")
+            is_well = not told
         elif words.found:
             is_well = many(seeds_found(), words, built)
         elif words.seed is not None:

@@ -259,11 +259,13 @@ class Operator(threading.Thread):
                 if self.load.is_over:
                     break
                 time.sleep(self.dice.random() * 0.08)
-                what = self.dice.choices(("down", "up", "end", "status"), (4, 4, 3, 1))[0]
+                what = self.dice.choices(("down", "up", "end", "status", "sessions", "keys"), (4, 4, 3, 1, 1, 1))[0]
                 if what == "end":
                     self.asked(f"end {self.dice.choice([*self.load.tsihs.values()] or [1])}")
                 elif what == "status":
                     self.load.array.ask("status", UNITS)
+                elif what in ("sessions", "keys"):
+                    self.asked("sessions" if what == "sessions" else "keys 0")
                 else:
                     self.move({"down": DOWN, "up": UP}[what], self.dice.choice((1, 2)))
                 self.load.progress += 1

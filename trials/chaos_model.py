@@ -40,6 +40,13 @@ class Op:
         self.lane, self.session, self.nexus, self.kind, self.given, self.reply = lane, session, nexus, kind, given, reply
         self.start, self.end, self.is_optional = start, end, is_optional
 
+    def __getstate__(self):
+        return tuple(getattr(self, name) for name in self.__slots__)
+
+    def __setstate__(self, kept):
+        for name, value in zip(self.__slots__, kept):
+            setattr(self, name, value)
+
     def __repr__(self):
         came = f"{self.end}" if self.end is not None else "no answer"
         who = f"{self.nexus.name[-1]}{self.nexus.isid % 16} by {self.nexus.group} (session {self.session})" if self.nexus else self.lane

@@ -94,7 +94,7 @@ class Chaos:
         return [(self.seen.sites[edge.held], self.seen.sites[edge.taken], bool(edge.is_awaited), edge.count)
                 for edge in self.seen.edges if edge.key]
 
-    def told_of_threads(self, names, class_of):
+    def told_of_threads(self, names, classes):
         """A line for each thread that holds a lock or waits for one, and for the others in which call they are."""
         now, lines = time.monotonic_ns(), []
         holders = {}
@@ -105,13 +105,13 @@ class Chaos:
             told = [f"thread {thread.place}"]
             for held in thread.holds[: thread.holds_count]:
                 site = self.seen.sites[held.site]
-                told.append(f"holds {class_of(names.of_site(site))} {held.lock:x} for {(now - held.since) / 1e9:.1f} s, taken by "
+                told.append(f"holds {classes.get(site.key, '?')} {held.lock:x} for {(now - held.since) / 1e9:.1f} s, taken by "
                             + " < ".join(names.of_site(site)[:2]))
             lock = thread.wanted or (thread.futex if thread.futex in holders else 0)
             if lock:
                 site = self.seen.sites[thread.wanted_site]
                 by = ", ".join(f"thread {place}" for place in holders.get(lock, [])) or "nobody that is known"
-                told.append(f"waits for {class_of(names.of_site(site))} {lock:x}, which {by} holds, at " + " < ".join(names.of_site(site)[:2]))
+                told.append(f"waits for {classes.get(site.key, '?')} {lock:x}, which {by} holds, at " + " < ".join(names.of_site(site)[:2]))
             elif thread.called != -1:
                 told.append(f"in {CALLS.get(thread.called, thread.called)} for {(now - thread.since) / 1e9:.1f} s"
                             + (f" at {thread.futex:x}" if thread.futex else ""))

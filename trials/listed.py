@@ -57,7 +57,7 @@ TRIALS = [
     Trial("chaos", "chaos.py --seeds 1000", "chaos.py --seeds 50", [CC, glibc], 1200, 60,
           "threads that wait for ever, or answers that no order of the commands gives; locks that are taken in another order"),
     Trial("chaos_found", "chaos.py --found", "chaos.py --found", [CC, glibc], 20, 20, "the same by the seeds that once found something"),
-    Trial("chaos_planted", "chaos.py --planted", None, [CC, glibc], 120, 0, "a chaos that does not find what was planted"),
+    Trial("chaos_planted", "chaos.py --planted", None, [CC, glibc, commands("rt")], 600, 0, "a chaos that does not find what was planted"),
     Trial("reservations", "reservations.py", "reservations.py --requests 300", [], 10, 3,
           "a rule of SPC-4 that registrations break in an order that no table has"),
     Trial("control", "control.py", "control.py", [], 14, 14,
@@ -94,8 +94,8 @@ TRIALS = [
 ]
 
 # What these import, and what stands by itself: an initiator, a port, what a guest runs.
-HELPERS = """by_libiscsi cases chaos_hosts chaos_model chaos_plants chaos_run every failing free_port initiator judged life linux_guest listed load_client locks log_failing
-    log_lines may_be package_host package_machine running sessions two_machines two_machines_build two_machines_disk two_machines_emulated
+HELPERS = """by_libiscsi cases chaos_hosts chaos_model chaos_plants chaos_run every failing free_port initiator judged life linux_guest listed log_failing
+    log_lines may_be package_host package_machine running sessions locks two_machines two_machines_build two_machines_disk two_machines_emulated
     two_machines_hosts orders""".split()
 
 

@@ -5,16 +5,17 @@ came of it, are looked at once.
 
     order_of(ops, unit)     an `Order`: is_found, or what was placed at most, and what could have come next
 
-Two things keep it short. Who asks one after the other is answered in this order (docs/PROFILE.md), so only the next of each lane is
+Three things keep it short. Who asks one after the other is answered in this order (docs/PROFILE.md), so only the next of each lane is
 looked at. And what may come next, and answered so would leave the unit as it is at any time, comes at once: an order with it later is
-one with it here too.
+one with it here too. And each number is written once: what somebody has still to find in a block is not overwritten, nor is its
+write left behind.
 What was not answered may have been done, or not.
 """
 
 import collections
 
-from chaos_model import FLUSH, IN, READ, READY, STATES
-from initiator import BUSY, CHECK_CONDITION, RESERVATION_CONFLICT
+from chaos_model import ATTACH, COMPARE, DOWN, FLUSH, IN, MISCOMPARE, OUT, READ, READY, RESET, RESTART, SET, STATES, UP, WRITE
+from initiator import BUSY, CHECK_CONDITION, GOOD, RESERVATION_CONFLICT
 
 # So many states at most; a history that needs more is told as one that was not decided.
 MOST = 30_000
@@ -32,17 +33,48 @@ def leaves_all(op):
     return status in (BUSY, RESERVATION_CONFLICT) or op.kind in (READ, READY, IN, STATES, FLUSH)
 
 
+def may_be_seen(op, found):
+    """Whether others may see that this was done, though it was not answered: a write where one of its numbers was found, or where
+    somebody found a difference; a login is seen by nobody, who has no answer to it."""
+    if op.kind in (WRITE, COMPARE):
+        blocks = range(op.given[0], op.given[0] + len(op.given[-1]))
+        return any(number in found for number in op.given[-1]) or any(("in", block) in found for block in blocks)
+    return op.kind in (OUT, SET, RESET, DOWN, UP)
+
+
 def lanes_of(ops):
+    """Who asks one after the other. At the end of a lane what was not answered is left out, where nobody can see whether it was done."""
     lanes = collections.defaultdict(list)
     for op in sorted(ops, key=lambda one: one.start):
         lanes[op.lane].append(op)
+    found = numbers_found(ops) | {("in", op.given[0] + op.reply[2] // 512) for op in ops if op.reply and op.reply[1] == MISCOMPARE}
+    for lane in lanes.values():
+        while lane and lane[-1].end is None and not may_be_seen(lane[-1], found):
+            lane.pop()
     return [lanes[lane] for lane in sorted(lanes, key=str)]
+
+
+def found_by(op):
+    """Block and number of what an answer says was there."""
+    if op.reply and op.reply[0] == GOOD and op.kind in (READ, COMPARE):
+        first, numbers = op.given[0], op.reply[2] if op.kind == READ else op.given[1]
+        return list(enumerate(numbers, first))
+    return []
+
+
+def numbers_found(ops):
+    return {number for op in ops for _, number in found_by(op)}
 
 
 class Search:
     def __init__(self, ops, unit):
-        self.lanes = lanes_of(ops)
-        self.wanted = sum(op.end is not None for op in ops)
+        self.lanes, self.found = lanes_of(ops), numbers_found(ops)
+        # who found this number in this block: their lane and their place in it
+        self.finders = collections.defaultdict(list)
+        for lane, ops_ in enumerate(self.lanes):
+            for place, op in enumerate(ops_):
+                for found in found_by(op):
+                    self.finders[found].append((lane, place))
         self.met, self.best, self.states = set(), (-1, (), (), unit), 0
 
     def heads(self, at):
@@ -67,12 +99,29 @@ class Search:
                 return lane, op
         return None
 
+    def overwrites(self, at, unit, then):
+        """Whether what somebody has still to find is gone then. Each number is written once, so it does not come back."""
+        return then.blocks != unit.blocks and any(
+            old != new and place >= at[lane] for block, (old, new) in enumerate(zip(unit.blocks, then.blocks))
+            for lane, place in self.finders.get((block, old), ()))
+
+    def must_be(self, op):
+        """Whether this was done, answered or not."""
+        return op.end is not None and not op.is_optional or op.kind in (WRITE, COMPARE) and any(n in self.found for n in op.given[-1])
+
+    def cuts_off(self, at, op):
+        """Whether a login in another's place, or a restart, leaves behind what has still to come."""
+        if op.kind not in (ATTACH, RESTART):
+            return False
+        return any(self.must_be(other) for lane, place in zip(self.lanes, at) for other in lane[place:] if other is not op and other.nexus
+                   and (other.start < op.start if op.kind == RESTART else other.nexus == op.nexus and other.session < op.session))
+
     def choices(self, at, unit):
         """What may come next, with the unit behind it; the first to be tried last."""
         found = []
         for lane, op in self.heads(at):
             then = unit.copy()
-            if then.apply(op):
+            if then.apply(op) and not self.overwrites(self.moved(at, lane), unit, then) and not self.cuts_off(at, op):
                 found.append((self.moved(at, lane), then, op))
             if op.is_optional:
                 found.append((self.moved(at, lane), unit, None))
