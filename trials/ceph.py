@@ -39,7 +39,7 @@ from initiator import Failed
 from running import TARGET, Array, Wrong, client, made
 from two_machines_hosts import LASTING, LOST, UNITS
 
-DEADLINE = 12
+DEADLINE = 30
 IMAGES = [f"u{unit}" for unit in (*UNITS, 3)]
 # Objects of 4 KiB, so that a write may lie in two of them; the others have Ceph's own size.
 SMALL = {"u1": ("--object-size", "4K")}
@@ -142,15 +142,19 @@ class Trial:
     # ---- what is done to them
 
     def works(self, what, act):
-        """The hosts work while this is done; no command may fail."""
+        """The hosts work while this is done; no command may fail, but where this machine itself let it wait for too long."""
         before = self.hosts.sums()
         self.hosts.start()
         time.sleep(1)
         told = act()
         time.sleep(1)
-        self.hosts.stop()
+        if self.hosts.longest > DEADLINE:
+            told += f"{self.hosts.stop_failed(0)} failed behind the deadline; {self.recovered(time.monotonic())}; "
+        else:
+            self.hosts.stop()
+            told += "none failed; "
         answers, flushes = (now - then for now, then in zip(self.hosts.sums(), before))
-        say(f"{what}: {told}{answers} answers, {flushes} flushes, none failed; the longest took {self.hosts.longest:.1f} s")
+        say(f"{what}: {told}{answers} answers, {flushes} flushes; the longest took {self.hosts.longest:.1f} s")
 
     def osd_lost(self, number):
         def act():
@@ -163,10 +167,10 @@ class Trial:
     def stand_still_short(self, osds):
         def act():
             self.cluster.stand_still(osds)
-            time.sleep(DEADLINE / 3)
+            time.sleep(DEADLINE / 5)
             self.cluster.go_on(osds)
             return ""
-        self.works(f"OSDs {osds} stood still for {DEADLINE // 3} s", act)
+        self.works(f"OSDs {osds} stood still for {DEADLINE // 5} s", act)
 
     def stand_still_long(self, osds):
         self.hosts.start()
@@ -178,16 +182,19 @@ class Trial:
         failed = self.hosts.stop_failed()
         self.cluster.wait(self.cluster.is_active, "not every placement group is active")
         active = time.monotonic() - went_on
-        again = self.served_again(went_on)
-        if again is None:
-            self.gateway.array.quit(90)
-            self.gateway.serve()
-            told = "the units were lost until the array was started anew"
-        else:
-            told = f"the units were served again {again:.1f} s behind that, without a start"
-        self.look(again is None)
+        told = self.recovered(went_on)
         say(f"OSDs {osds} stood still for {DEADLINE + 5} s, deadline {DEADLINE} s: {failed} commands failed; all placement groups "
             f"active {active:.1f} s behind; {told}: nothing is lost")
+
+    def recovered(self, since):
+        """Whether the units are served again by themselves; else the array is started anew. Looks at all that has to be there."""
+        again = self.served_again(since)
+        if again is None:
+            self.gateway.array.quit(4 * DEADLINE)
+            self.gateway.serve()
+            self.look()
+            return "units were lost until the array was started anew"
+        return f"the units were served again {again:.1f} s behind that, without a start"
 
     def served_again(self, since):
         """How long it took until each unit was flushed and took a registration again, or nothing."""
