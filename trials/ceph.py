@@ -15,6 +15,8 @@ was cut off must not write any more. docs/MANY_MACHINES.md says what this is for
 usage: trials/ceph.py [--fast | --rounds N]       ten rounds; --fast is one
        trials/ceph.py lying_cache                 with rbd-fuse's cache on, whose flush is GOOD for what was lost: has to find it
        trials/ceph.py not_blocklisted             the gateway that was cut off is not put on the blocklist: has to find it
+       trials/ceph.py speed                       commands a second: fio by its rbd engine, and a host through the array over
+                                                  rbd-fuse, over the same image by turns
 
 Ends with status 1 where it is not so. The program is ./arrayd, or what the environment's ARRAYD names. Wants Debian's packages
 ceph-mon ceph-osd ceph-mgr ceph-common rbd-fuse, and fuse where it is not run as root; a tenth of a round is processor time. Not
@@ -22,6 +24,7 @@ part of the gate.
 """
 
 import argparse
+import json
 import os
 import subprocess
 import sys
@@ -31,11 +34,12 @@ import time
 import ceph_cluster
 from ceph_cluster import Cluster, Mount, unmount
 from ceph_hosts import MayFail, Witness
-from free_port import free_port
-from running import Array, Wrong, made
-from two_machines_hosts import UNITS
+from free_port import HOST, free_port
+from initiator import Failed
+from running import TARGET, Array, Wrong, client, made
+from two_machines_hosts import LASTING, LOST, UNITS
 
-DEADLINE = 12
+DEADLINE = 30
 IMAGES = [f"u{unit}" for unit in (*UNITS, 3)]
 # Objects of 4 KiB, so that a write may lie in two of them; the others have Ceph's own size.
 SMALL = {"u1": ("--object-size", "4K")}
@@ -138,15 +142,19 @@ class Trial:
     # ---- what is done to them
 
     def works(self, what, act):
-        """The hosts work while this is done; no command may fail."""
+        """The hosts work while this is done; no command may fail, but where this machine itself let it wait for too long."""
         before = self.hosts.sums()
         self.hosts.start()
         time.sleep(1)
         told = act()
         time.sleep(1)
-        self.hosts.stop()
+        if self.hosts.longest > DEADLINE:
+            told += f"{self.hosts.stop_failed(0)} failed behind the deadline; {self.recovered(time.monotonic())}; "
+        else:
+            self.hosts.stop()
+            told += "none failed; "
         answers, flushes = (now - then for now, then in zip(self.hosts.sums(), before))
-        say(f"{what}: {told}{answers} answers, {flushes} flushes, none failed; the longest took {self.hosts.longest:.1f} s")
+        say(f"{what}: {told}{answers} answers, {flushes} flushes; the longest took {self.hosts.longest:.1f} s")
 
     def osd_lost(self, number):
         def act():
@@ -159,10 +167,10 @@ class Trial:
     def stand_still_short(self, osds):
         def act():
             self.cluster.stand_still(osds)
-            time.sleep(DEADLINE / 3)
+            time.sleep(DEADLINE / 5)
             self.cluster.go_on(osds)
             return ""
-        self.works(f"OSDs {osds} stood still for {DEADLINE // 3} s", act)
+        self.works(f"OSDs {osds} stood still for {DEADLINE // 5} s", act)
 
     def stand_still_long(self, osds):
         self.hosts.start()
@@ -174,27 +182,30 @@ class Trial:
         failed = self.hosts.stop_failed()
         self.cluster.wait(self.cluster.is_active, "not every placement group is active")
         active = time.monotonic() - went_on
-        again = self.served_again(went_on)
-        if again is None:
-            self.gateway.array.quit(90)
-            self.gateway.serve()
-            told = "the units were lost until the array was started anew"
-        else:
-            told = f"the units were served again {again:.1f} s behind that, without a start"
-        self.look(again is None)
+        told = self.recovered(went_on)
         say(f"OSDs {osds} stood still for {DEADLINE + 5} s, deadline {DEADLINE} s: {failed} commands failed; all placement groups "
             f"active {active:.1f} s behind; {told}: nothing is lost")
 
+    def recovered(self, since):
+        """Whether the units are served again by themselves; else the array is started anew. Looks at all that has to be there."""
+        again = self.served_again(since)
+        if again is None:
+            self.gateway.array.quit(4 * DEADLINE)
+            self.gateway.serve()
+            self.look()
+            return "units were lost until the array was started anew"
+        return f"the units were served again {again:.1f} s behind that, without a start"
+
     def served_again(self, since):
-        """How long it took until each unit was flushed again, or nothing."""
+        """How long it took until each unit was flushed and took a registration again, or nothing."""
         until = time.monotonic() + LOOKS
         while time.monotonic() < until:
             try:
-                self.hosts.log_in(self.gateway.port)
-                for unit in UNITS:
-                    self.hosts.nodes[0].paths[0].flush(unit)
+                self.look(False)
+                for unit in LASTING:
+                    self.hosts.register(self.hosts.nodes[0], 0, unit, next(self.hosts.keys))
                 return time.monotonic() - since
-            except Exception:  # whatever a unit answers that is not served
+            except (Failed, *LOST):
                 time.sleep(1)
         return None
 
@@ -320,13 +331,57 @@ def not_blocklisted(folder, _):
     finds(Trial(folder, blocklists=False), "with the gateway that was cut off not on the blocklist")
 
 
+# ---- how fast it is
+
+SIZE, SECONDS, RUNS = 256 << 20, 8, 3
+
+
+def by_engine(trial, way, length, depth):
+    words = ["fio", "--name=engine", "--ioengine=rbd", "--clientname=admin", "--pool=rbd", "--rbdname=fast", f"--rw=rand{way}",
+             f"--bs={length}", f"--iodepth={depth}", f"--runtime={SECONDS}", "--time_based", "--randrepeat=0", "--output-format=json"]
+    said = ceph_cluster.told(words, env={**os.environ, "CEPH_CONF": trial.conf}, cwd=trial.folder)
+    return json.loads(said[said.index("{"):])["jobs"][0][way]["iops"]
+
+
+def by_host(program, port, way, length, depth):
+    words = [program, f"{HOST}:{port}", TARGET, "0", way, str(length), str(depth), "1", str(SECONDS), str(SIZE)]
+    return float(ceph_cluster.told(words).split()[0].replace(",", ""))
+
+
+def speed(folder, _):
+    """Reads and writes that are done when every copy has them: no cache of the library, and none of the kernel's pages."""
+    trial = Trial(folder)
+    try:
+        trial.cluster.start()
+        trial.cluster.create("fast", str(SIZE >> 20))
+        trial.cluster.rbd("import", trial.registration_file(), f"{ceph_cluster.POOL}/fast.reg")
+        mount = Mount(trial.cluster, os.path.join(folder, "fast"), more=("-o", "direct_io"))
+        mount.wait("fast")
+        trial.conf, program = mount.conf, client(folder)
+        array = Array([mount.path("fast")], free_port())
+        ceph_cluster.told(["dd", "if=/dev/urandom", f"of={mount.path('fast')}", "bs=1M", f"count={SIZE >> 20}", "conv=notrunc"])
+        for way in ("read", "write"):
+            for length in (4096, 262144):
+                for depth in (1, 32):
+                    runs = [(by_engine(trial, way, length, depth), by_host(program, array.port, way, length, depth))
+                            for _ in range(RUNS)]
+                    engine, host = (sorted(column)[RUNS // 2] for column in zip(*runs))
+                    say(f"{way} {length >> 10} KiB, {depth} deep: engine {engine:.0f} a second, host {host:.0f}: "
+                        f"{host / engine:.2f}   {[tuple(map(round, run)) for run in runs]}")
+        array.kill()
+        mount.kill()
+    finally:
+        trial.end()
+
+
 def main():
     words = argparse.ArgumentParser(usage=__doc__.split("usage: ")[1].split("\n\n")[0])
-    words.add_argument("way", nargs="?", default="rounds", choices=("rounds", "lying_cache", "not_blocklisted"))
+    words.add_argument("way", nargs="?", default="rounds", choices=("rounds", "lying_cache", "not_blocklisted", "speed"))
     words.add_argument("--fast", action="store_true")
     words.add_argument("--rounds", type=int, default=10)
     words = words.parse_args()
-    lacks = ceph_cluster.lacking("rbd-fuse", *(() if os.geteuid() == 0 else ("fusermount",)))
+    more = ("fio", "rustc") if words.way == "speed" else ()
+    lacks = ceph_cluster.lacking("rbd-fuse", *more, *(() if os.geteuid() == 0 else ("fusermount",)))
     if lacks or not os.path.exists("/dev/fuse"):
         sys.exit(f"it wants {lacks or '/dev/fuse'}")
     with tempfile.TemporaryDirectory(dir="/tmp", ignore_cleanup_errors=True) as folder:

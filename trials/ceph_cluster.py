@@ -226,15 +226,14 @@ def two_ports():
 class Mount:
     """The images of the pool as files, by rbd-fuse: no root, and no module of the kernel."""
 
-    def __init__(self, cluster, folder, options="", preload=None):
+    def __init__(self, cluster, folder, options="", more=()):
         self.cluster, self.folder, self.held = cluster, folder, None
         os.makedirs(folder, exist_ok=True)
         self.conf = folder.rstrip("/") + ".conf"
         with open(cluster.conf) as file, open(self.conf, "w") as own:
             own.write(f"{file.read()}[client]\nrbd cache = false\n{options}\n")
-        environment = {**os.environ, **({"LD_PRELOAD": preload} if preload else {})}
-        self.process = subprocess.Popen(["rbd-fuse", "-f", "-c", self.conf, "-p", POOL, folder], stdin=subprocess.DEVNULL,
-                                        stdout=cluster.errors, stderr=cluster.errors, env=environment, preexec_fn=dies_with_us)
+        self.process = subprocess.Popen(["rbd-fuse", "-f", "-c", self.conf, "-p", POOL, *more, folder], stdin=subprocess.DEVNULL,
+                                        stdout=cluster.errors, stderr=cluster.errors, preexec_fn=dies_with_us)
 
     def path(self, image):
         return os.path.join(self.folder, image)

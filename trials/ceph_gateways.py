@@ -10,7 +10,6 @@ usage: trials/ceph_gateways.py build FOLDER             makes what they boot: so
        trials/ceph_gateways.py FOLDER [--fast]          the seven takeovers; --fast is one of each kind
        trials/ceph_gateways.py not_blocklisted FOLDER   nobody is blocklisted, the lock is not exclusive: has to find what is lost
        trials/ceph_gateways.py plan FOLDER              what Pacemaker would do by the page's configuration; starts nothing
-       trials/ceph_gateways.py speed FOLDER             fio over an image by its rbd engine, then by a host through the array
 
 Ends with status 1 where it is not so. The program is ./arrayd, or what ARRAYD names, as it was when FOLDER was made. Wants root,
 Debian's packages ceph-mon ceph-osd ceph-mgr ceph-common qemu-system-x86 qemu-utils, 4 GiB of memory. Not part of the gate.
@@ -18,7 +17,6 @@ Debian's packages ceph-mon ceph-osd ceph-mgr ceph-common qemu-system-x86 qemu-ut
 
 import argparse
 import concurrent.futures
-import json
 import os
 import re
 import subprocess
@@ -30,7 +28,7 @@ import ceph_cluster
 import ceph_gateways_build
 from ceph import must_be_whole, say
 from ceph_cluster import USER, Cluster
-from ceph_gateways_build import IMAGES, KEYRING, PLACE
+from ceph_gateways_build import GUEST, IMAGES, KEYRING, PLACE
 from ceph_hosts import MayFail, Witness
 from running import TOP, Wrong
 from two_machines import tell_consoles
@@ -42,7 +40,7 @@ HERE, MOVES = "10.91.0.1", "10.91.0.10"
 ADDRESS = {"a": "10.91.0.2", "b": "10.91.0.3"}
 PORT, SHELL = 3260, 2222
 MEMORY = "1024"
-SIZES = {"array-files": "64M", "unit3": "256M"}
+SIZES = {"array-files": "64M"}
 WORKS = 8
 INSIDE = "CEPH_GATEWAYS_NETWORK"
 
@@ -80,7 +78,7 @@ class Gateway(Machine):
         append = f"plain machine={self.name} console=ttyS0 panic=1 loglevel=4 mitigations=off no_timer_check tsc=unstable"
         return [
             "setpriv", "--pdeathsig", "KILL", "nice", "-n", NICE, "qemu-system-x86_64", "-accel", "tcg,thread=multi,tb-size=128",
-            "-cpu", "max", "-smp", "2", "-m", MEMORY, "-display", "none", "-monitor", "none", "-no-reboot",
+            "-cpu", "max", "-smp", "1", "-m", MEMORY, "-display", "none", "-monitor", "none", "-no-reboot",
             "-serial", f"file:{console}", "-kernel", os.path.join(self.folder, "vmlinuz"),
             "-initrd", os.path.join(self.folder, "initrd"), "-append", append,
             "-drive", f"file={root},format=qcow2,if=virtio,cache=unsafe",
@@ -98,8 +96,11 @@ class Gateway(Machine):
     def wait_up(self):
         """Waits until it is up, and a client of the cluster."""
         conf = f"[global]\nfsid = {self.cluster.fsid}\nmon host = {self.cluster.monitor}\n"
-        key = self.cluster.ceph("auth", "get", USER)
-        self.when_on = f"cat > /etc/ceph/ceph.conf <<'END'\n{conf}END\ncat > {KEYRING} <<'END'\n{key}END\n"
+        files = {"/etc/ceph/ceph.conf": conf, KEYRING: self.cluster.ceph("auth", "get", USER)}
+        for name in ("activate", "deactivate"):
+            with open(os.path.join(GUEST, name)) as file:
+                files[f"{PLACE}/{name}"] = file.read()
+        self.when_on = "".join(f"cat > {path} <<'BEHIND'\n{text}BEHIND\n" for path, text in files.items())
         return super().wait_up()
 
     def writes_by_hand(self):
@@ -135,9 +136,8 @@ class Pair:
             machine.wait_up()
         say("the cluster and both machines are up")
         links = "".join(f"ln -s /dev/rbd/rbd/{image} {image}\n" for image in IMAGES[1:])
-        self.active.ask("export RBDMAPFILE=/etc/ceph/rbdmap; rbdmap map; mkfs.ext4 -q /dev/rbd/rbd/array-files\n"
-                        f"cd /var/lib/arrayd/one; mount /dev/rbd/rbd/array-files .; cd .; {links}chown arrayd: .; cd /\n"
-                        "umount /var/lib/arrayd/one; rbdmap unmap-all")
+        self.active.ask(f"{PLACE}/activate exclusive || true; mkfs.ext4 -q /dev/rbd/rbd/array-files; cd /var/lib/arrayd/one\n"
+                        f"mount /dev/rbd/rbd/array-files .; cd .; {links}chown arrayd: .; cd /; {PLACE}/deactivate")
         say(f"machine {self.active.name} serves: {self.activate()}")
         self.log_in()
         self.hosts.begin()
@@ -149,9 +149,8 @@ class Pair:
 
     def activate(self):
         """The active machine takes up its work: its steps, with the milliseconds that each took from the begin."""
-        if not self.is_exclusive:
-            self.active.ask("sed -i s/,options=.*// /etc/ceph/rbdmap")
-        return ", ".join(self.active.ask(f"{PLACE}/activate {' '.join(IMAGES[1:])}"))
+        options = "exclusive" if self.is_exclusive else "rw"
+        return ", ".join(self.active.ask(f"{PLACE}/activate {options} {' '.join(IMAGES[1:])}"))
 
     def log_in(self):
         self.hosts.log_in(PORT, 240, MOVES)
@@ -253,7 +252,7 @@ def old_cannot_write(pair, old, witness):
 
 def mapped_exclusively(pair):
     """What others may do with an image while a gateway has it: the other one maps it too, a snapshot, another size."""
-    asked = {"a second map": pair.passive.ask(f"timeout 60 rbd map --id array -k {KEYRING} -o exclusive rbd/unit3 2>&1 || true")}
+    asked = {"a second map": pair.passive.ask(f"timeout 100 bash {PLACE}/activate exclusive unit3 2>&1 || true")}
     for what, words in (("a snapshot", ("snap", "create", "rbd/unit3@seen")), ("another size", ("resize", "--size", "300M", "rbd/unit3"))):
         try:
             asked[what] = [pair.cluster.run("timeout", "60", "rbd", *words) or "done"]
@@ -261,7 +260,7 @@ def mapped_exclusively(pair):
             asked[what] = [str(wrong)[-160:]]
     told = "; ".join(f"{what}: {' '.join(' '.join(lines).split())[-160:]}" for what, lines in asked.items())
     say(f"while it is mapped exclusively: {told}")
-    pair.passive.ask("rbdmap unmap-all || true")
+    pair.passive.ask(f"{PLACE}/deactivate 2> /dev/null || true")
 
 
 def whole(pair, is_fast):
@@ -288,41 +287,6 @@ def not_blocklisted(pair, _):
         say(f"with nobody blocklisted: found. {wrong}"[:700])
     else:
         raise Wrong("nobody was blocklisted, and nothing was found to be lost")
-
-
-# ---- how fast it is
-
-FIO = ("fio --name=x --direct=1 --size=256M --runtime=15 --rw={way} --bs={length} --iodepth={depth} --end_fsync=1 "
-       "--randrepeat=0 --output-format=json {where}")
-ENGINE = "--ioengine=rbd --clientname=array --pool=rbd --rbdname=unit3"
-HOST_DISK = f"/dev/disk/by-path/ip-{MOVES}:3264-iscsi-iqn.2000-01.test:array-lun-3"
-HOST = f"--ioengine=libaio --filename={HOST_DISK}"
-
-
-def fio(machine, where, way, length, depth, before=None):
-    if before:
-        before.ask("sync; echo 3 > /proc/sys/vm/drop_caches")
-    said = "\n".join(machine.ask(FIO.format(way=way, length=length, depth=depth, where=where)))
-    job = json.loads(said[said.index("{"):])["jobs"][0]
-    kind = job["read" if way == "randread" else "write"]
-    return kind["total_ios"] / ((kind["runtime"] + (job["sync"].get("lat_ns", {}).get("max", 0) / 1e6)) / 1000)
-
-
-def speed(pair, _):
-    pair.begin()
-    rows = [(way, length, depth) for way in ("randread", "randwrite") for length in ("4k", "256k") for depth in (1, 32)]
-    host, gateway = pair.passive, pair.active
-    host.ask(f"systemctl start iscsid; iscsiadm -m node -o new -T iqn.2000-01.test:array -p {MOVES}:3264 > /dev/null\n"
-             "iscsiadm -m node -T iqn.2000-01.test:array --login > /dev/null; udevadm settle")
-    host.ask(f"dd if=/dev/urandom of={HOST_DISK} bs=1M count=256 oflag=direct 2> /dev/null; sync")
-    by_host = [[fio(host, HOST, *row, gateway) for _ in range(3)] for row in rows]
-    host.ask("iscsiadm -m node --logoutall=all > /dev/null")
-    gateway.ask("systemctl stop arrayd@one; umount /var/lib/arrayd/one; systemctl stop rbdmap")
-    by_engine = [[fio(host, ENGINE, *row) for _ in range(3)] for row in rows]
-    for row, engine, through in zip(rows, by_engine, by_host):
-        one, other = sorted(engine)[1], sorted(through)[1]
-        say(f"{row}: rbd engine {one:.0f} a second, by a host through arrayd {other:.0f}: {other / one:.2f}; "
-            f"{[round(each) for each in engine]} {[round(each) for each in through]}")
 
 
 # ---- Pacemaker's plan
@@ -389,7 +353,7 @@ def main():
             return boot(folder, run)
         pair = Pair(folder, run, way != "not_blocklisted")
         try:
-            {"whole": whole, "not_blocklisted": not_blocklisted, "speed": speed}[way](pair, words.fast)
+            {"whole": whole, "not_blocklisted": not_blocklisted}[way](pair, words.fast)
         except BaseException:
             tell_consoles(run)
             raise

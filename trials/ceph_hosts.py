@@ -38,6 +38,7 @@ class MayFail(Hosts):
         until = time.monotonic() + seconds
         for thread in self.threads:
             thread.join(max(0, until - time.monotonic()))
+        self.is_over.set()
         self.break_off()
         for thread in self.threads:
             thread.join()

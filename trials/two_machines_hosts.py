@@ -41,6 +41,8 @@ class Registrations:
     def __init__(self, is_lasting):
         self.is_lasting, self.lock = is_lasting, threading.Lock()
         self.now, self.or_else = Registry(), None
+        # what the file may have though the save was answered as failed, by a later start
+        self.in_file = []
 
     def ask(self, host, by, unit, action, kind=0, key=0, new_key=0):
         """Sends a PERSISTENT RESERVE OUT, whose answer has to be that of the rules."""
@@ -54,11 +56,15 @@ class Registrations:
             reply = host.paths[by].reserve_out(unit, action, kind, key, new_key, self.is_lasting)
             if reply.status == BUSY:
                 self.or_else = None
+            if reply.sense_key() == SAVE_FAILED:
+                self.in_file.append(model)
             if reply.status == BUSY or reply.sense_key() == SAVE_FAILED:
                 raise Failed(reply)
             if (reply.status, reply.sense_key()) != wanted:
                 raise Wrong(f"{host.name} unit {unit}: action {action}: {told(reply)}, and not {wanted}")
             self.now, self.or_else = model if wanted[0] == GOOD else self.now, None
+            if wanted[0] == GOOD and self.is_lasting:
+                self.in_file = []
 
     def key_of(self, host, by):
         """The key by which a path is registered, 0 where it is not."""
@@ -68,11 +74,12 @@ class Registrations:
         """What may be there after a start, or where the array has not ended."""
         known = [each for each in (self.now, self.or_else) if each]
         if has_ended:
-            return [each.lasting() for each in known]
+            return [each.lasting() for each in (*known, *self.in_file)]
         return [(each.aptpl, frozenset(each.keys.items()), each.kind, each.holder) for each in known]
 
-    def found(self, record):
-        """This is there after a start."""
+    def found(self, record, has_ended):
+        """This is there after a start, or where the array has not ended."""
+        self.in_file = [] if has_ended else self.in_file
         self.now, self.or_else = Registry((record[0], tuple(record[1]), record[2], record[3])), None
 
 
@@ -206,6 +213,8 @@ class Host:
             self.good(unit, lba, 1, count)
         elif reply.status == RESERVATION_CONFLICT:
             self.never(unit, lba, 1, count)
+        elif reply.sense_key() == WRITE_FAILED:
+            raise Failed(reply)
         else:
             raise Wrong(f"{self.name} unit {unit}: WRITE: {told(reply)}")
         return reply.status == GOOD
@@ -383,7 +392,7 @@ class Hosts:
             found, may = registrations_found(self.nodes[0].paths[0], unit), self.registrations[unit].may_be(has_ended)
             if found not in may:
                 wrong.append(f"unit {unit}: registered is {found}, and that may be {may}")
-            self.registrations[unit].found(found)
+            self.registrations[unit].found(found, has_ended)
             allows = [self.registrations[unit].now.allows(self.fenced.nexus(by), True) for by in range(2)]
             is_let_in = self.is_let_in(unit)
             if is_let_in != allows:
