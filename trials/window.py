@@ -355,6 +355,41 @@ def registration_that_was_not_saved(folder):
 
 
 @case
+def failure_that_is_acknowledged(folder):
+    """A read that failed is over when an administrator says so; a flush that was lost is not."""
+    failing, control = Failing(folder), f"{folder}/control"
+    disks = [made(f"{folder}/disk{unit}", 4096) for unit in range(2)]
+    with Array(disks, more={"ARRAYD_HTTP": f"127.0.0.1:{AT}", "ARRAYD_CONTROL": control, **failing.environment}) as array:
+        session = host()
+        failing.let("pread", errno.EIO, times=4)
+        is_so("the read", end_of(session.command(0, [0x28, 0, 0, 0, 0, 9, 0, 0, 1, 0], expected=512)), "03 11/00")
+        wrong(0, "calls_failed")
+        failing.stop()
+        is_so("seen", said_by(control, "acknowledge"), b"acknowledged\n")
+        over(0, "disk", "read", "EIO")
+        session.write(1, 0, bytes(512))
+        failing.let("fdatasync", errno.EIO)
+        is_so("the flush", end_of(session.command(1, [0x35] + [0] * 9)), "03 0C/00")
+        wrong(1, "flushes_lost")
+        said_by(control, "acknowledge")
+        wrong(1, "flushes_lost")
+        array.quit()
+
+
+def said_by(control, line):
+    """What the control socket answers to a line."""
+    with socket.socket(socket.AF_UNIX) as peer:
+        peer.settimeout(10)
+        peer.connect(control)
+        peer.sendall(line.encode() + b"\n")
+        peer.shutdown(socket.SHUT_WR)
+        answer = b""
+        while part := peer.recv(4096):
+            answer += part
+    return answer
+
+
+@case
 def commands_that_wait_for_each_other(folder):
     """Sixteen READs that came together, of a second each: none of them hangs."""
     failing = Failing(folder)

@@ -41,6 +41,7 @@ const STACK: usize = 256 * 1024;
 const STRANGERS: u32 = 1 << 24;
 
 const HELP: &str = "status      a line for each unit
+acknowledge ends what failed, but for flushes, as seen
 sessions    a line for each session that is logged in
 keys U      a line for each registration of a unit
 end TSIH    ends a session
@@ -118,6 +119,14 @@ impl<R: Wait + Clock + Drop, A: Administered + Drop> ControlSocket<R, A> {
         Ok(())
     }
 
+    // What has failed was seen by an administrator.
+    fn acknowledge<W: Write>(&self, writer: &mut W) -> io::Result<()> {
+        if let Some(meters) = self.array.log().meters() {
+            meters.acknowledge();
+        }
+        writer.write_all(b"acknowledged\n")
+    }
+
     fn say_version<W: Write>(&self, writer: &mut W) -> io::Result<()> {
         let version = self.version;
         writeln!(writer, "arrayd {version}")
@@ -188,6 +197,7 @@ impl<R: Wait + Clock + Drop, A: Administered + Drop> ControlSocket<R, A> {
             Some("status") => self.array.say_status(&self.rt, writer),
             Some("up 1") => self.say_up(writer, Group::One),
             Some("up 2") => self.say_up(writer, Group::Two),
+            Some("acknowledge") => self.acknowledge(writer),
             Some("sessions") => self.say_sessions(alloc, writer),
             Some("version") => self.say_version(writer),
             Some("help") => writer.write_all(HELP.as_bytes()),

@@ -143,7 +143,7 @@ function line(values, height) {
   });
   return words;
 }
-function chart(title, names, keys, words, isLog) {
+function chart(title, names, keys, words, isLog, top = words) {
   const values = keys.map(key => past.map(point => point[key])), most = Math.max(1, ...values.flat().filter(Number.isFinite));
   const height = n => { const part = isLog ? Math.log(1 + n) / Math.log(1 + most) : n / most; return 116 - 110 * part; };
   const svg = drawn('svg', { viewBox: '0 0 600 120', preserveAspectRatio: 'none', role: 'img', 'aria-label': title });
@@ -151,7 +151,7 @@ function chart(title, names, keys, words, isLog) {
   values.forEach((numbers, place) => svg.append(drawn('path', { class: 'line' + place, d: line(numbers, height) })));
   const last = place => { const n = values[place].at(-1); return n === undefined || n === null ? 'none' : words(n); };
   const keysShown = names.map((name, place) => make('span', 'key line' + place, name + ' ', make('b', '', last(place))));
-  return make('div', 'card', make('h3', '', title, make('span', 'soft', ' up to ' + words(most))), svg,
+  return make('div', 'card', make('h3', '', title, make('span', 'soft', ' up to ' + top(most))), svg,
     make('div', 'soft ends', make('span', '', 'ten minutes ago'), make('span', '', 'now')), make('div', '', ...keysShown));
 }
 function wire(route) {
@@ -243,11 +243,11 @@ function show(view) {
     ...view.degraded.map(text => make('li', 'amber', signed('warn', text))));
   fill('charts', chart('Commands', ['controller 1', 'controller 2'], ['one', 'two'], rate),
     chart('Bytes', ['read', 'written'], ['read', 'written'], n => bytes(n) + '/s'),
-    chart('Latency', ['median', '99 %'], ['middle', 'slow'], within(view.bounds_micros), true));
+    chart('Latency', ['median', '99 %'], ['middle', 'slow'], within(view.bounds_micros), true, time));
   fill('units', ...view.units.map(card));
-  table('unit_table', [['unit', 'unit'], ['owner', 'owner'], ['commands', 'commands'], ['bytes read', 'read'],
-    ['bytes written', 'written'], ['flushes', 'flushes'], ['checks', 'checks'], ['refused', 'refused'], ['miscompares', 'miscompares'],
-    ['conflicts', 'conflicts'], ['BUSY', 'busy'], ['failed calls', 'failed']], view.units.map(unitRow));
+  table('unit_table', [['unit', 'unit'], ['owner', 'owner'], ['commands', 'commands'], ['read', 'read'],
+    ['written', 'written'], ['flushes', 'flushes'], ['checks', 'checks'], ['refused', 'refused'], ['miscompares', 'miscompares'],
+    ['conflicts', 'conflicts'], ['BUSY', 'busy'], ['failed', 'failed']], view.units.map(unitRow));
   const failures = failuresOf(view);
   fill('failure_count', '(' + failures.length + ')');
   table('failure_table', [['unit', 'unit'], ['file', 'file'], ['call', 'call'], ['error', 'error'], ['times', 'count'],
