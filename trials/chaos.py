@@ -18,10 +18,10 @@ usage: trials/chaos.py [--seeds N] [--from SEED] [--jobs J]       N seeds, 50 wh
        trials/chaos.py --planted [NAME..]                         has to find what is planted, within 50 seeds each: by the library, or
                                                                   in copies of the tree (trials/chaos_plants.py)
 
-`--first` ends with the first that is found. `--locks` tells of each lock how often it was taken, and how long it was held; `--comes-back` expects a disk that hung past its deadline
-to serve again. The program is ./arrayd, or what ARRAYD names. Locks are seen in one that tools/unproved.py compiled; in another one
-only the calls of the system are stood at. Histories are left in the folder CHAOS_HISTORIES, where that is set. Wants a C compiler and
-the GNU C library.
+`--first` ends with the first that is found. `--locks` tells of each lock how often it was taken, and how long it was held.
+`--stays-lost` expects a disk that hung past its deadline to serve no more until a restart. The program is ./arrayd, or what ARRAYD
+names. Locks are seen in one that tools/unproved.py compiled; in another one only the calls of the system are stood at. Histories are
+left in the folder CHAOS_HISTORIES, where that is set. Wants a C compiler and the GNU C library.
 """
 
 import argparse
@@ -69,9 +69,9 @@ def flavour_of(seed):
 class Run:
     """One seed: its lives of the array, and what was found."""
 
-    def __init__(self, seed, folder, built, names, fault=None, comes_back=False):
+    def __init__(self, seed, folder, built, names, fault=None, stays_lost=False):
         self.seed, self.folder, self.built, self.names, self.fault = seed, folder, built, names, fault
-        self.flavour, self.comes_back = flavour_of(seed), comes_back
+        self.flavour, self.stays_lost = flavour_of(seed), stays_lost
         self.may_fail = self.flavour["hangs"] and self.flavour["deadline"]
         self.findings, self.load, self.began = [], None, time.monotonic()
         self.counted, self.locks = collections.Counter(), {}
@@ -224,7 +224,7 @@ class Run:
             with open(os.path.join(kept, f"{self.seed}.pickle"), "wb") as file:
                 pickle.dump(self.load.ops, file)
         for unit, ops in enumerate(self.load.ops):
-            order = order_of(ops, Unit(unit, BLOCKS, self.may_fail and unit == 0, self.comes_back))
+            order = order_of(ops, Unit(unit, BLOCKS, self.may_fail and unit == 0, self.stays_lost))
             if not order.is_found:
                 self.findings.append(f"unit {unit}: {why_not(order)}")
 
@@ -248,9 +248,9 @@ def names_of(program):
     return Names(program)
 
 
-def tried(seed, built, fault, comes_back):
+def tried(seed, built, fault, stays_lost):
     with tempfile.TemporaryDirectory(dir="/dev/shm" if os.path.isdir("/dev/shm") else None) as folder:
-        return Run(seed, folder, built, names_of(ARRAYD), fault, comes_back).result()
+        return Run(seed, folder, built, names_of(ARRAYD), fault, stays_lost).result()
 
 
 def tell(result, is_long=False):
@@ -261,14 +261,14 @@ def tell(result, is_long=False):
               f"{result.seconds:.1f} s", flush=True)
 
 
-def each(seeds, built, jobs, fault=None, comes_back=False):
+def each(seeds, built, jobs, fault=None, stays_lost=False):
     """The results of these seeds, as they come."""
     with concurrent.futures.ProcessPoolExecutor(jobs) as pool:
         pending, left = set(), iter(seeds)
         try:
             while True:
                 while len(pending) < jobs and (seed := next(left, None)) is not None:
-                    pending.add(pool.submit(tried, seed, built, fault, comes_back))
+                    pending.add(pool.submit(tried, seed, built, fault, stays_lost))
                 if not pending:
                     return
                 done, pending = concurrent.futures.wait(pending, return_when=concurrent.futures.FIRST_COMPLETED)
@@ -289,7 +289,7 @@ def tell_locks(results):
 
 def many(seeds, words, built):
     began, results = time.monotonic(), []
-    for result in each(seeds, built, words.jobs, comes_back=words.comes_back):
+    for result in each(seeds, built, words.jobs, stays_lost=words.stays_lost):
         results.append(result)
         tell(result, words.seed is not None)
     if words.locks:
@@ -303,7 +303,7 @@ def many(seeds, words, built):
 
 def first_found(words, built, fault=None):
     """The first line of what is found, with the seed, and how many were tried; within as many seeds as there may be."""
-    for count, result in enumerate(each(range(words.first, words.first + words.seeds), built, words.jobs, fault, words.comes_back), 1):
+    for count, result in enumerate(each(range(words.first, words.first + words.seeds), built, words.jobs, fault, words.stays_lost), 1):
         if result.findings:
             return f"found by seed {result.seed}, the {count}. of them: " + "; ".join(one.splitlines()[0] for one in result.findings[:2])
     return ""
@@ -331,7 +331,7 @@ def main():
     words = argparse.ArgumentParser(usage=__doc__.split("usage: ")[1].split("\n\n")[0])
     for name, default in (("--seeds", 50), ("--from", 1), ("--seed", None), ("--times", 1), ("--jobs", max(1, (os.cpu_count() or 2) // 2))):
         words.add_argument(name, type=int, default=default, dest=name.strip("-") if name != "--from" else "first")
-    for name in ("--found", "--locks", "--comes-back"):
+    for name in ("--found", "--locks", "--stays-lost"):
         words.add_argument(name, action="store_true")
     words.add_argument("--first", action="store_true", dest="only_first")
     words.add_argument("--planted", nargs="*", choices=[*FAULTS, *PLANTS], default=None)

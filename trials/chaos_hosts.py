@@ -11,7 +11,7 @@ import time
 from chaos_model import (ATTACH, COMPARE, DOWN, FLUSH, IN, NON_OPTIMIZED, NUMBER, OPTIMIZED, OUT, READ, READY, RESET, SET, STANDBY, STATES,
                          UNAVAILABLE, UP, WRITE, Op)
 from initiator import BLOCK, CHECK_CONDITION, GOOD, Closed, Refused, Session
-from reservations import (CLEAR, KEYS, NEXUSES, PREEMPT, PREEMPT_AND_ABORT, REGISTER, REGISTER_AND_IGNORE, RELEASE, RESERVE, TYPES,
+from reservations import (CLEAR, NEXUSES, PREEMPT, PREEMPT_AND_ABORT, REGISTER, REGISTER_AND_IGNORE, RELEASE, RESERVE, TYPES,
                           Request)
 from running import TARGET
 
@@ -39,7 +39,7 @@ class Load:
         self.seed, self.array, self.flavour = seed, array, flavour
         self.ops = [[] for _ in range(UNITS)]
         self.lock, self.numbers, self.sessions = threading.Lock(), 0, 0
-        self.seen = [[0] * BLOCKS for _ in range(UNITS)]
+        self.seen, self.keys = [[0] * BLOCKS for _ in range(UNITS)], []
         self.progress, self.tsihs, self.faults = 0, {}, []
         self.is_over = False
 
@@ -158,14 +158,19 @@ class Host(threading.Thread):
             self.load.seen[unit][op.given[0]: op.given[0] + len(numbers)] = numbers
         elif op.kind == OUT and op.given.action in (REGISTER, REGISTER_AND_IGNORE):
             self.key = op.given.new_key
+            self.load.keys.append(self.key)
 
     # ---- what is asked
 
     def request(self):
         dice = self.dice
         action = dice.choices((REGISTER, REGISTER_AND_IGNORE, RESERVE, RELEASE, CLEAR, PREEMPT, PREEMPT_AND_ABORT), (6, 3, 5, 5, 1, 2, 1))[0]
-        key = self.key if dice.random() < 0.9 else dice.choice(KEYS)
-        new = dice.choice((0, *KEYS)) if action in (REGISTER, REGISTER_AND_IGNORE) else dice.choice(KEYS)
+        others = self.load.keys[-6:] or [1]
+        key = self.key if dice.random() < 0.9 else dice.choice(others)
+        new = dice.choice(others)
+        if action in (REGISTER, REGISTER_AND_IGNORE):
+            # a key of its own each time, or none
+            new = self.load.number() << 16 if dice.random() < 0.8 else 0
         return Request(action, 0, dice.choice(TYPES), key, new, dice.random() < 0.5, dice.random() < 0.2, False, 24)
 
     def states(self):
@@ -240,9 +245,9 @@ class Operator(threading.Thread):
         return said.decode().strip()
 
     def move(self, kind, controller):
-        """Each unit that moved has it in its history."""
+        """Each unit that moved has it in its history; `up` moves only those that it concerns."""
         start = time.monotonic_ns()
-        ops = [Op(kind, None, None, kind, controller, start=start, is_optional=kind == UP and 1 + unit % 2 != controller) for unit in range(UNITS)]
+        ops = [Op(kind, None, None, kind, controller, start=start, is_optional=kind == UP) for unit in range(UNITS)]
         for unit, op in enumerate(ops):
             self.load.ops[unit].append(op)
         said = self.load.array.ask(f"down {controller}")[0] if kind == DOWN else self.asked(f"up {controller}")

@@ -62,14 +62,14 @@ def opening_states(number):
 
 
 class Unit(Model):
-    """A unit of this number with so many blocks. `may_fail`: its disk may have hung past a deadline. Then its file is lost until a
-    restart, unless `comes_back`."""
+    """A unit of this number with so many blocks. `may_fail`: its disk may have hung past a deadline, and serve again when it has
+    come back; where it `stays_lost`, not before a restart."""
 
-    def __init__(self, number, blocks, may_fail=False, comes_back=False):
+    def __init__(self, number, blocks, may_fail=False, stays_lost=False):
         super().__init__()
         self.pending, self.serials = {}, {}
         self.number, self.blocks, self.states = number, (0,) * blocks, opening_states(number)
-        self.may_fail, self.comes_back, self.is_lost = may_fail, comes_back, False
+        self.may_fail, self.stays_lost, self.is_lost = may_fail, stays_lost, False
 
     def copy(self):
         other = Unit.__new__(Unit)
@@ -164,7 +164,7 @@ class Unit(Model):
         """Whether the disk fails in this: the answer that came says so, and it may."""
         told = op.reply[1] if op.reply else None
         if told in senses and self.may_fail:
-            self.is_lost = self.is_lost or not self.comes_back
+            self.is_lost = self.is_lost or self.stays_lost
             return True
         return self.is_lost and op.kind != FLUSH
 

@@ -7,8 +7,8 @@ came of it, are looked at once.
 
 Three things keep it short. Who asks one after the other is answered in this order (docs/PROFILE.md), so only the next of each lane is
 looked at. And what may come next, and answered so would leave the unit as it is at any time, comes at once: an order with it later is
-one with it here too. And each number is written once: what somebody has still to find in a block is not overwritten, nor is its
-write left behind.
+one with it here too. And each number is written once, and each key registered once: what somebody has still to find in a block is not
+overwritten, and neither its write nor the registration of a key that is found is left behind.
 What was not answered may have been done, or not.
 """
 
@@ -16,6 +16,7 @@ import collections
 
 from chaos_model import ATTACH, COMPARE, DOWN, FLUSH, IN, MISCOMPARE, OUT, READ, READY, RESET, RESTART, SET, STATES, UP, WRITE
 from initiator import BUSY, CHECK_CONDITION, GOOD, RESERVATION_CONFLICT
+from reservations import REGISTER, REGISTER_AND_IGNORE
 
 # So many states at most; a history that needs more is told as one that was not decided.
 MOST = 30_000
@@ -62,8 +63,20 @@ def found_by(op):
     return []
 
 
+def keys_in(action, data):
+    """The keys that an answer to READ KEYS, READ RESERVATION or READ FULL STATUS tells."""
+    if action == 2 or len(data) < 16:
+        return
+    at = 8
+    while at + 8 <= len(data):
+        yield int.from_bytes(data[at:at + 8], "big")
+        at += 8 if action == 0 else 24 + int.from_bytes(data[at + 20:at + 24], "big") if action == 3 else len(data)
+
+
 def numbers_found(ops):
-    return {number for op in ops for _, number in found_by(op)}
+    """The numbers of blocks that were found, and the keys."""
+    numbers = {number for op in ops for _, number in found_by(op)}
+    return numbers | {("key", key) for op in ops if op.kind == IN and op.reply and op.reply[2] for key in keys_in(op.given, op.reply[2])}
 
 
 class Search:
@@ -107,7 +120,11 @@ class Search:
 
     def must_be(self, op):
         """Whether this was done, answered or not."""
-        return op.end is not None and not op.is_optional or op.kind in (WRITE, COMPARE) and any(n in self.found for n in op.given[-1])
+        if op.end is not None:
+            return not op.is_optional
+        if op.kind == OUT:
+            return ("key", op.given.new_key) in self.found and op.given.action in (REGISTER, REGISTER_AND_IGNORE)
+        return op.kind in (WRITE, COMPARE) and any(number in self.found for number in op.given[-1])
 
     def cuts_off(self, at, op):
         """Whether a login in another's place, or a restart, leaves behind what has still to come."""

@@ -116,9 +116,10 @@ int open(const char *path, int flags, ...)
     }
     int handle = answered(call(SYS_openat, AT_FDCWD, (long)path, flags, mode, 0, 0));
     if (shared && 0 <= handle && handle < HANDLES) {
-        int is_disk = strstr(path, "/disk") != NULL, is_registrations = is_disk && strstr(path, ".reg");
-        int is_first = !strcmp(path, shared->disk);
-        atomic_store(&kinds[handle], is_registrations ? REGISTRATIONS : is_first ? DISK : is_disk ? OTHER_DISK : NO_FILE);
+        /* disk0, disk1 .. and disk0.reg .. */
+        const char *name = strstr(path, "/disk"), *end = name ? strchr(name, '.') : NULL;
+        int is_registrations = end && !strncmp(end, ".reg", 4), is_first = !strcmp(path, shared->disk);
+        atomic_store(&kinds[handle], is_registrations ? REGISTRATIONS : is_first ? DISK : name && !end ? OTHER_DISK : NO_FILE);
     }
     return handle;
 }
