@@ -18,7 +18,7 @@ WRONG = "wrong words"
 
 # The words, where P is a port that is free, what is wrong with them, and what of it is named.
 ROWS = [
-    ("", WRONG, "DISK"), ("--help disk", WRONG, "--help"), ("--once --version", WRONG, "--version"), ("--port 0 disk", WRONG, "--port"),
+    ("", WRONG, "DISK"), ("--help disk", WRONG, "Usage"), ("--once --version", WRONG, "--version"), ("--port 0 disk", WRONG, "--port"),
     ("--port 65529 disk", WRONG, "65529"), ("--portals 5 disk", WRONG, "--portals"), ("--array 4294967296 disk", WRONG, "4294967296"),
     ("--host localhost disk", WRONG, "--host"), ("--target= disk", WRONG, "--target"),
     ("--target array disk", WRONG, "--target"), ("--target iqn.2000-01.Test:array disk", WRONG, "--target"),

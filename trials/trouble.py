@@ -61,10 +61,9 @@ def words_that_the_log_names(folder):
     for words, what in ((["--target", "", disk], "--target"), (["--host", "localhost", disk], "--host"), ([], "DISK"),
                         ([disk] * 9, "DISK"), (["--once", disk], "DISK")):
         is_so(f"{words}", told(words), f'"{what}"')
-    for variable, text in (("ARRAYD_DEADLINE", "0"), ("ARRAYD_HOST2", "localhost"), ("ARRAYD_HTTP", "9860"), ("ARRAYD_HTTP", "127.0.0.1:0")):
+    for variable, text in (("ARRAYD_DEADLINE", "0"), ("ARRAYD_HOST2", "localhost"), ("ARRAYD_HTTP", "9860"), ("ARRAYD_HTTP", "127.0.0.1:0"),
+                           ("ARRAYD_CONTROL", folder + "/" + "x" * 120), ("ARRAYD_CONTROLS", "")):
         is_so(f"{variable}={text}", told([disk], **{variable: text}), f'"{variable}"')
-    path = folder + "/" + "x" * 120
-    is_so("a path too long", told([disk], ARRAYD_CONTROL=path), f'"{path}"')
     is_so("an escape in a word", "\x1b" not in told(["--\x1b[2J", disk]), True)
     is_so("a control socket's folder", ended([disk], log=log, more={"ARRAYD_CONTROL": folder + "/none/control"}),
           (1, "arrayd: cannot make the control socket"))
@@ -427,7 +426,9 @@ def disks_in_another_order(folder):
     for disk in disks:
         os.remove(disk + ".unit")
     with Array(disks[::-1]) as array:
-        is_so("where it is meant so", login().read(1, 0, 1)[:12], b"of the first")
+        session = login()
+        session.ready(1)
+        is_so("where it is meant so", session.read(1, 0, 1)[:12], b"of the first")
         array.quit()
 
 
@@ -738,7 +739,7 @@ def flush_failed(folder):
             second = login(2, 1)
             is_so("by the other controller", flush(second), "03 0C/00")
             is_so("it ends all the same, and says so", array.last_words("quit\n"),
-                  (3, "not flushed 0\n", f"arrayd: unit 0 was not flushed: {place.place}/unit0\n"))
+                  (3, "not flushed 0\n", f"arrayd: unit 0 was not flushed: {folder}/unit0\n"))
         with Array([folder + "/unit0"]) as array:
             session = login()
             is_so("after a restart", (write(session, 8), flush(session)), (GOOD, GOOD))

@@ -74,7 +74,7 @@ fn compare(rt: &impl Abort, alloc: Global, lines: &[u8], answers: &str) -> Resul
     let end = console(alloc, lines, &mut written, &mut array);
     let text = String::from_utf8(written)?;
     let is_told = end == Err(Fault::NotFlushed(1));
-    let said = text.strip_suffix("not flushed 1\n");
+    let said = text.as_str().strip_suffix("not flushed 1\n");
     let is_right = is_told && said == Some(answers) && array.flushed == 1;
     must(rt, is_right, "these lines", &(lines, text));
     Ok(())

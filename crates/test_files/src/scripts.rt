@@ -201,7 +201,7 @@ unit disk 0 1
 what lies there and names no unit stays
 put disk.unit "unit 1 array 7"
 unit disk 1 7; NamesNone
-put disk.unit ""
+make disk.unit 0
 unit disk 1 7; NamesNone
 put disk.unit "unit 256 array 7" 0A
 unit disk 1 7; NamesNone
