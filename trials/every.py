@@ -134,7 +134,7 @@ def run_all(chosen, words, program, logs):
         except Exception as fault:  # a trial that could not be started is one that failed
             summary.add(trial.name, FAILED, why=repr(fault))
 
-    for name in not_listed(TRIALS_FOLDER):
+    for name in not_listed():
         summary.add(name, FAILED, why="trials/listed.py does not name it")
     with concurrent.futures.ThreadPoolExecutor(words.jobs) as pool:
         for trial in sorted(chosen, key=lambda one: (one.alone, -(one.fast_seconds if words.fast else one.seconds))):

@@ -44,10 +44,13 @@ def glibc():
     return "" if known and ("GLIBC" in known.stdout or "GNU" in known.stdout) else "the GNU C library"
 
 
+HERE = os.path.dirname(os.path.abspath(__file__))
 CC, RUSTC, QEMU = commands("cc"), commands("rustc"), commands("qemu-system-x86_64")
 MACHINES = folder("TWO_MACHINES", "trials/two_machines.py build FOLDER")
 LINUX = folder("LINUX_HOST", "trials/linux_host.py build FOLDER")
 PACKAGED = folder("PACKAGE_MACHINE", "trials/package.py build FOLDER")
+GATEWAYS = folder("CEPH_GATEWAYS", "trials/ceph_gateways.py build FOLDER")
+CEPH = commands("ceph-mon", "ceph-osd", "ceph-mgr", "ceph")
 DOWNLOADS = "building its folder downloads Debian's packages; a run installs nothing here"
 
 TRIALS = [
@@ -76,6 +79,7 @@ TRIALS = [
     Trial("failover", "failover.py 31 60", "failover.py 8 10", [], 65, 12, "a command that is lost or done twice while its unit moves", None, True),
     Trial("load", "load.py 64 32 300", "load.py 8 8 10", [RUSTC], 320, 20, "a write that was answered and is gone behind `kill -9`", None, True),
     Trial("refused", "refused.py", None, [CC, glibc], 60, 0, "an allocation whose failure is not looked at"),
+    Trial("standstill", "standstill.py", None, [CC], 120, 0, "a disk that stands still past the deadline and is not served again when it goes on"),
     Trial("calls", "calls.py --jobs 2", None, [CC], 300, 0, "a failure of a disk that is not told; a GOOD before its flush"),
     Trial("calls_in_place", "calls.py --in-place --jobs 2", None, [CC], 300, 0, "the same, where each flush is the device's, under its unit's lock"),
     Trial("clients", "clients.py", None, [commands("qemu-img", "qemu-nbd", "iscsi-ls", "iscsi-test-cu", "fio")], 300, 0,
@@ -88,24 +92,34 @@ TRIALS = [
     Trial("two_machines_plan", "two_machines_plan.py $TWO_MACHINES", None, [root, MACHINES], 60, 0, "a cluster that plans two active machines", DOWNLOADS),
     Trial("two_machines_pacemaker", "two_machines_pacemaker.py $TWO_MACHINES", None, [QEMU, MACHINES], 1800, 0,
           "the same, as Pacemaker runs it", DOWNLOADS, True),
+    Trial("ceph", "ceph.py", None, [CEPH, commands("rbd-fuse")], 1800, 0,
+          "a promised block or a fence that a loss of an OSD, of the array or of a gateway takes away", None, True),
+    *(Trial(f"ceph_{way}", f"ceph.py {way}", None, [CEPH, commands("rbd-fuse")], 300, 0, "a trial that does not find what is lost", None, True)
+      for way in ("lying_cache", "not_blocklisted")),
+    Trial("ceph_gateways", "ceph_gateways.py $CEPH_GATEWAYS", None, [root, CEPH, QEMU, GATEWAYS], 1800, 0,
+          "a takeover between gateways that forgets a fence, or a block whose flush was GOOD", DOWNLOADS, True),
+    Trial("ceph_gateways_not_blocklisted", "ceph_gateways.py not_blocklisted $CEPH_GATEWAYS", None, [root, CEPH, QEMU, GATEWAYS], 600, 0,
+          "a trial that does not find what is lost", DOWNLOADS, True),
     Trial("package", "package.py run $PACKAGE_MACHINE $ARRAYD_DEB", None, [QEMU, PACKAGED, package], 900, 0,
           "an install, an upgrade or a removal that does not do what the README says",
           "it installs packages, in a machine of qemu; " + DOWNLOADS, True),
 ]
 
 # What these import, and what stands by itself: an initiator, a port, what a guest runs.
-HELPERS = """by_libiscsi cases chaos_hosts chaos_model chaos_plants chaos_run every failing free_port initiator judged life linux_guest listed log_failing
+HELPERS = """by_libiscsi cases ceph_cluster ceph_gateways_build ceph_hosts chaos_hosts chaos_model chaos_plants chaos_run every failing free_port initiator judged life linux_guest listed log_failing
     log_lines may_be package_host package_machine running sessions locks two_machines two_machines_build two_machines_disk two_machines_emulated
     two_machines_hosts orders""".split()
 
 
 def lacking(trial):
     """What this machine has not of what a trial wants."""
-    return ", ".join(filter(None, (each() for each in trial.wants)))
+    script = trial.words.split()[0]
+    wanted = [] if os.path.exists(os.path.join(HERE, script)) else [f"trials/{script}, which is not there"]
+    return ", ".join(filter(None, (*wanted, *(each() for each in trial.wants))))
 
 
-def not_listed(folder_of_trials):
+def not_listed():
     """The scripts that neither list names."""
     known = {trial.words.split()[0].rsplit(".", 1)[0] for trial in TRIALS} | set(HELPERS)
-    found = {name.rsplit(".", 1)[0] for name in os.listdir(folder_of_trials) if name.endswith((".py", ".sh"))}
+    found = {name.rsplit(".", 1)[0] for name in os.listdir(HERE) if name.endswith((".py", ".sh"))}
     return sorted(found - known)

@@ -235,7 +235,8 @@ ssize_t pwrite(int handle, const void *bytes, size_t size, off_t at)
         return answered(call(SYS_pwrite64, handle, (long)bytes, size, at, 0, 0));
     stand();
     hang(kind);
-    if (kind == REGISTRATIONS && comes(LOST_SAVE))
+    /* the root, which names what was saved; not as the file is made, which the first thread does */
+    if (kind == REGISTRATIONS && at == 0 && own && own->place && comes(LOST_SAVE))
         return size;
     if (kind != REGISTRATIONS) {
         keep_old(handle, size, at);
