@@ -53,7 +53,7 @@ fn said<R: Files<File = File>>(rt: &R, path: &str, word: &[u8]) -> Option<u64> {
 fn bytes_of(bytes: Option<u64>, ratio: Option<u64>, memory: u64) -> Option<u64> {
     match bytes {
         Some(bytes) if bytes > 0 => Some(bytes),
-        _ => Some(memory / 100 * ratio?),
+        _ => Some((memory / 100).saturating_mul(ratio?)),
     }
 }
 
