@@ -731,11 +731,13 @@ def prometheus(folder):
         server = subprocess.Popen(["prometheus", f"--config.file={folder}/prometheus.yml", f"--storage.tsdb.path={folder}/data",
                                    f"--web.listen-address=127.0.0.1:{port}"], stdout=said, stderr=said)
         try:
+            query = f"http://127.0.0.1:{port}/api/v1/query?query="
+            said_to = lambda words: subprocess.run(["curl", "-s", query + words], capture_output=True, check=False).stdout
+            got = lambda words: json.loads(said_to(words))
+            until(lambda: b'"value"' in said_to("up"), 60)
             for _ in range(30):
                 session.read(0, 0, 8)
                 time.sleep(0.2)
-            query = f"http://127.0.0.1:{port}/api/v1/query?query="
-            got = lambda words: json.loads(subprocess.run(["curl", "-s", query + words], capture_output=True, check=True).stdout)
             is_so("up", got("up")["data"]["result"][0]["value"][1], "1")
             reads = got("arrayd_commands_total%7Boperation%3D%22read%22,controller%3D%221%22%7D")["data"]["result"][0]["value"][1]
             is_so("reads", 20 <= int(reads) <= 30, True)
