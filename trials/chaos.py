@@ -224,7 +224,7 @@ class Run:
             with open(os.path.join(kept, f"{self.seed}.pickle"), "wb") as file:
                 pickle.dump(self.load.ops, file)
         for unit, ops in enumerate(self.load.ops):
-            order = order_of(ops, Unit(unit, BLOCKS, self.may_fail and unit == 0, self.stays_lost))
+            order = order_of(ops, Unit(unit, BLOCKS, self.may_fail, self.stays_lost))
             if not order.is_found:
                 self.findings.append(f"unit {unit}: {why_not(order)}")
 
