@@ -4,8 +4,8 @@
 # pages are as their texts say. `rt ci` proves the code and its tests, and runs both.
 #
 #   ./tests.sh                 all crates
-#   ./tests.sh test_parts      one crate
-#   ./tests.sh test_parts --only negotiation     those of its tests whose names have this word
+#   ./tests.sh test_units      one crate
+#   ./tests.sh test_sessions --only negotiation     those of its tests whose names have this word
 if ! command -v python3 > /dev/null; then
     echo 'tests.sh wants python3' >&2
     exit 1

@@ -5,7 +5,8 @@
 //     commands of SIZE bytes at random places of the unit's first REGION bytes, DEPTH of them open in each of the SESSIONS,
 //     whose names are counted from FIRST on; prints how many ended a second. `fua` writes with FUA; `flush` has a SYNCHRONIZE
 //     CACHE behind each write, and nothing else open: it counts both as one. With COUNTx in place of a time each session sends
-//     so many commands, and waits for all answers
+//     so many commands, and waits for all answers. With CLIENT_WORST in the environment it prints behind the rate how many
+//     milliseconds a command took at most
 // client HOST:PORT[,HOST:PORT..] TARGET UNIT[,UNIT..] load SIZE DEPTH SESSIONS SECONDS
 //     each session writes numbered blocks to places of its own and reads them back, all the time; when the time is over, or
 //     the connections break, it logs in again, for a minute, and reads all: each block has the last write of it that was
@@ -369,6 +370,8 @@ struct Plan {
     count: u64,
     region: u64,
     first: usize,
+    // whether it is told how long a command took at most
+    tells_worst: bool,
 }
 
 impl Plan {
@@ -382,8 +385,8 @@ impl Plan {
     }
 }
 
-// One session of a benchmark. Answers how many commands ended while the clock ran.
-fn measure(plan: &Plan, number: usize, start: &Barrier, is_over: &AtomicBool) -> io::Result<u64> {
+// One session of a benchmark. Answers how many commands ended while the clock ran, and how long one took at most, where that is told.
+fn measure(plan: &Plan, number: usize, start: &Barrier, is_over: &AtomicBool) -> io::Result<(u64, Duration)> {
     let (mut session, unit) = plan.login(number)?;
     let blocks = plan.size / BLOCK;
     let places = session.capacity(unit)?.min(plan.region / BLOCK as u64) / blocks as u64;
@@ -392,19 +395,24 @@ fn measure(plan: &Plan, number: usize, start: &Barrier, is_over: &AtomicBool) ->
     let is_write = plan.work != "read";
     let depth = if plan.work == "flush" { 1 } else { plan.depth };
     let (mut open, mut ended, mut tag) = (0, 0, 0);
+    let (mut sent, mut worst) = (std::collections::HashMap::new(), Duration::ZERO);
     start.wait();
     while !is_over.load(Ordering::Relaxed) && ended < plan.count {
         while open < depth && session.has_room() && ended + (open as u64) < plan.count {
             let lba = random.below(places) * blocks as u64;
             session.command(unit, tag, lba, blocks, is_write.then_some(&data[..]));
+            if plan.tells_worst {
+                sent.insert(tag, Instant::now());
+            }
             tag = (tag + 1) % 0x7FFF0000;
             open += 1;
         }
         loop {
             match session.event()? {
-                Event::Done { status: 0, .. } => {
+                Event::Done { tag, status: 0, .. } => {
                     open -= 1;
                     ended += 1;
+                    worst = sent.remove(&tag).map_or(worst, |then| worst.max(then.elapsed()));
                 }
                 Event::Done { status, sense, .. } => {
                     return Err(broken(&format!("status {status:02x} sense {sense:02x?}")));
@@ -420,7 +428,7 @@ fn measure(plan: &Plan, number: usize, start: &Barrier, is_over: &AtomicBool) ->
             session.synchronize(unit, tag)?;
         }
     }
-    Ok(ended)
+    Ok((ended, worst))
 }
 
 fn benchmark(plan: &Plan) -> io::Result<()> {
@@ -435,7 +443,7 @@ fn benchmark(plan: &Plan) -> io::Result<()> {
                     eprintln!("session {number}: {e}");
                     std::process::exit(1);
                 }
-                ended.unwrap_or(0)
+                ended.unwrap_or((0, Duration::ZERO))
             })
         })
         .collect();
@@ -445,8 +453,18 @@ fn benchmark(plan: &Plan) -> io::Result<()> {
         std::thread::sleep(plan.time);
         is_over.store(true, Ordering::Relaxed);
     }
-    let ended: u64 = workers.into_iter().map(|worker| worker.join().unwrap()).sum();
-    println!("{:.0}", ended as f64 / began.elapsed().as_secs_f64());
+    let (mut ended, mut worst) = (0, Duration::ZERO);
+    for worker in workers {
+        let (count, longest) = worker.join().unwrap();
+        ended += count;
+        worst = worst.max(longest);
+    }
+    let rate = ended as f64 / began.elapsed().as_secs_f64();
+    if plan.tells_worst {
+        println!("{rate:.1} {:.3}", worst.as_secs_f64() * 1e3);
+    } else {
+        println!("{rate:.0}");
+    }
     Ok(())
 }
 
@@ -689,6 +707,7 @@ fn main() -> io::Result<()> {
         count: count.unwrap_or(u64::MAX),
         region: if words.len() > 8 { number(8) } else { u64::MAX },
         first: if words.len() > 9 { number(9) as usize } else { 0 },
+        tells_worst: std::env::var_os("CLIENT_WORST").is_some(),
     };
     if plan.work == "load" { load(&plan) } else { benchmark(&plan) }
 }

@@ -1,8 +1,9 @@
 /* A disk that takes time, under the files of a program that is started with this library preloaded: the regular files below
  * the folder that SLOW_DISK names. A read of pages that are not in memory waits until they have arrived, all of one call side
  * by side, SLOW_PAGE microseconds after they were asked for; so does a write of a part of such a page. POSIX_FADV_WILLNEED asks
- * for pages and does not wait, POSIX_FADV_DONTNEED forgets them. A flush takes SLOW_FLUSH microseconds, whatever else runs.
- * At the start of the program no page is in memory.
+ * for pages and does not wait, POSIX_FADV_DONTNEED forgets them. A flush takes SLOW_FLUSH microseconds, whatever else runs;
+ * where SLOW_PACE is set, it also takes a microsecond for each so many bytes that were written behind the flush before.
+ * While the file SLOW_STANDS is there, no call comes back. At the start of the program no page is in memory.
  *
  * cc -O2 -shared -fPIC -o slow_disk.so bench/slow_disk.c */
 #define _GNU_SOURCE
@@ -29,6 +30,8 @@ struct file {
     ino_t number;
     size_t pages;
     _Atomic uint64_t *arrival;
+    /* How many bytes were written and not flushed, and when the disk has written them that were to be. */
+    _Atomic uint64_t left, done;
 };
 
 static struct file files[FILES];
@@ -36,8 +39,9 @@ static int known;
 static pthread_mutex_t knowing = PTHREAD_MUTEX_INITIALIZER;
 /* What a descriptor is: 0 where nobody has looked, 1 where it is no such file, else a file's number and 2. */
 static _Atomic int descriptors[DESCRIPTORS];
-static uint64_t of_page = 100000, of_flush = 2000000;
+static uint64_t of_page = 100000, of_flush = 2000000, pace;
 static char folder[PATH_MAX];
+static const char *stands;
 
 static ssize_t (*real_pread)(int, void *, size_t, off64_t);
 static ssize_t (*real_preadv)(int, const struct iovec *, int, off64_t);
@@ -67,6 +71,9 @@ __attribute__((constructor)) static void begin(void)
         of_page = strtoull(word, NULL, 10) * 1000;
     if ((word = getenv("SLOW_FLUSH")) != NULL)
         of_flush = strtoull(word, NULL, 10) * 1000;
+    if ((word = getenv("SLOW_PACE")) != NULL)
+        pace = strtoull(word, NULL, 10);
+    stands = getenv("SLOW_STANDS");
 }
 
 static uint64_t now(void)
@@ -91,6 +98,14 @@ static void wait_until(uint64_t when)
         ;
 }
 
+/* Waits while the disk stands still. */
+static void stand(void)
+{
+    struct timespec time = { 0, 5000000 };
+    while (stands != NULL && access(stands, F_OK) == 0)
+        nanosleep(&time, NULL);
+}
+
 /* Looks what a descriptor is: a file's number and 2, or 1. */
 static int look(int fd)
 {
@@ -111,7 +126,7 @@ static int look(int fd)
         size_t pages = (found.st_size + PAGE - 1) / PAGE;
         _Atomic uint64_t *arrival = calloc(pages + 1, sizeof *arrival);
         if (arrival != NULL)
-            files[known++] = (struct file){ found.st_dev, found.st_ino, pages, arrival };
+            files[known++] = (struct file){ found.st_dev, found.st_ino, pages, arrival, 0, 0 };
     }
     int is = at < known ? at + 2 : 1;
     pthread_mutex_unlock(&knowing);
@@ -151,8 +166,10 @@ static uint64_t ask(struct file *file, size_t first, size_t behind)
 static void before_read(int fd, size_t length, off64_t at)
 {
     struct file *file = file_of(fd);
-    if (file != NULL && length > 0)
+    if (file != NULL && length > 0) {
         wait_until(ask(file, at / PAGE, (at + length - 1) / PAGE + 1));
+        stand();
+    }
 }
 
 static void before_write(int fd, size_t length, off64_t at)
@@ -173,6 +190,23 @@ static void before_write(int fd, size_t length, off64_t at)
         atomic_compare_exchange_strong(&file->arrival[page], &none, 1);
     }
     wait_until(last);
+    file->left += length;
+    stand();
+}
+
+/* What was written behind the flush before is on the disk when this is over, and what flushes before it have begun. */
+static void before_flush(int fd)
+{
+    struct file *file = file_of(fd);
+    if (file == NULL)
+        return;
+    uint64_t begun = now(), took = pace == 0 ? 0 : atomic_exchange(&file->left, 0) / pace * 1000;
+    uint64_t done = file->done, next;
+    do
+        next = (done > begun ? done : begun) + took;
+    while (!atomic_compare_exchange_weak(&file->done, &done, next));
+    wait_until((pace == 0 ? begun : next) + of_flush);
+    stand();
 }
 
 static size_t length_of(const struct iovec *parts, int count)
@@ -231,15 +265,13 @@ ALSO(posix_fadvise, posix_fadvise64);
 
 int fdatasync(int fd)
 {
-    if (file_of(fd) != NULL)
-        wait_until(now() + of_flush);
+    before_flush(fd);
     return real_fdatasync(fd);
 }
 
 int fsync(int fd)
 {
-    if (file_of(fd) != NULL)
-        wait_until(now() + of_flush);
+    before_flush(fd);
     return real_fsync(fd);
 }
 

@@ -36,7 +36,8 @@ install -d -m 0755 "$documents/docs" "$documents/examples"
 install -m 0644 "$top/README.md" "$top/CHANGELOG.md" "$top/CONTRIBUTING.md" "$top/SECURITY.md" "$documents"
 install -m 0644 "$top"/docs/*.* "$documents/docs"
 install -m 0644 "$here/example.conf" "$here/hosts.conf" "$documents/examples"
-# a dashboard for Grafana, where there is one
-for dashboard in "$here"/*.json; do
+install -m 0755 "$here/fence_ceph_blocklist" "$documents/examples"
+# a dashboard for Grafana, and rules for Prometheus with their tests, where there are any
+for dashboard in "$here"/*.json "$here"/arrayd-alerts*.yml; do
     [ ! -e "$dashboard" ] || install -m 0644 "$dashboard" "$documents/examples"
 done

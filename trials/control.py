@@ -16,13 +16,18 @@ import time
 
 from cases import Cases, is_so, lines, until
 from free_port import free_port
-from running import PORT, TOP, Array, Wrong, begun, ended, made
+from running import PORT, TOP, Array, Wrong, begun, ended, library, made
 from window import HOSTILE, host
 
 CASES = Cases()
 case = CASES.case
 SESSION = re.compile(r'session (\d+) controller ([12]) type (normal|discovery) isid (0x[0-9a-f]+) peer ([0-9.]+:\d+) '
                      r'portal ([0-9.]+:\d+) since (\d+) commands (\d+) last ([a-z_]+) initiator "((?:[^"\\]|\\["\\]|\\x[0-9a-f]{2})*)"')
+# What each move of `controller_that_comes_up` changed, until controller 2 is down.
+MOVED = [f"unit={unit} owner={owner} states={states} by=console"
+         for unit, owner, states in [(0, 2, "3,0"), (1, 2, "3,0"), (2, 2, "3,0"), (0, 1, "0,1"), (1, 2, "1,0"), (2, 1, "0,1"),
+                                     (0, 1, "0,3"), (1, 1, "0,3"), (2, 1, "0,3"), (0, 1, "0,1"), (1, 2, "1,0"), (2, 1, "0,1"),
+                                     (0, 1, "0,3"), (1, 1, "0,3"), (2, 1, "0,3")]]
 HELP = ["status", "sessions", "keys U", "end TSIH", "up 1, up 2", "version", "help"]
 
 
@@ -144,6 +149,25 @@ def session_that_is_ended(folder):
         is_so("the log", any(f"tsih={tsih} " in line + " " for line in lines(log, "session_ended")), True)
 
 
+@case
+def end_is_a_fence(folder):
+    """Behind `ended` no command of the session reaches a unit, though it sent more than are served by then."""
+    os.mkdir(f"{folder}/slow")
+    slow = {"LD_PRELOAD": library("bench/slow_disk.c", folder), "SLOW_DISK": f"{folder}/slow", "SLOW_FLUSH": "50000"}
+    with Array([made(f"{folder}/slow/disk", 4096)], more={"ARRAYD_CONTROL": f"{folder}/control", **slow}) as array:
+        session = host()
+        tsih = sessions(folder)[0x400001370000][1]
+        before = int(array.status()["entries"])
+        for _ in range(24):
+            session.submit(0, [0x35])
+        until(lambda: int(array.status()["entries"]) > before)
+        is_so("ended", asked(folder, f"end {tsih}"), ["ended"])
+        then = array.status()["entries"]
+        time.sleep(0.5)
+        is_so("entries", array.status()["entries"], then)
+        array.quit()
+
+
 def may_connect_as(user, folder):
     child = os.fork()
     if child == 0:
@@ -196,6 +220,12 @@ def controller_that_comes_up(folder):
         array.ask("down 2")
         is_so("up 2", asked(folder, "up 2"), ["up"])
         is_so("owners then", [array.status(unit, 3)["owner"] for unit in range(3)], ["1", "2", "1"])
+        array.ask("down 2")
+        before = array.ask("status", 3)
+        is_so("up 1 while 2 is down", (asked(folder, "up 1"), array.ask("status", 3)), (["up"], before))
+        told = lines(log, "groups_set")
+        is_so("what moved is told", [line.split("groups_set ", 1)[1] for line in told], MOVED)
+        array.ask("up 2")
         array.ask("down 1")
         os.remove(f"{folder}/disk0")
         is_so("a disk that is gone", asked(folder, "up 1"), ["not moved 0"])
@@ -239,8 +269,17 @@ def paths(folder):
         is_so("of another array", start(f"{folder}/control"), none)
         is_so("which has it still", asked(folder, "version"), ["arrayd 1.0.0"])
         array.kill()
-    is_so("of one that was killed", start(f"{folder}/control"), none)
-    os.remove(f"{folder}/control")
+    with array_in(folder) as array:
+        is_so("of one that was killed", asked(folder, "version"), ["arrayd 1.0.0"])
+        array.process.terminate()
+        array.process.wait(20)
+    with array_in(folder) as array:
+        is_so("of one that SIGTERM ended", asked(folder, "version"), ["arrayd 1.0.0"])
+        array.quit()
+    os.mkfifo(f"{folder}/fifo")
+    os.symlink(f"{folder}/none", f"{folder}/link")
+    is_so("no socket", (start(f"{folder}/fifo"), start(f"{folder}/link")), (none, none))
+    is_so("untouched too", (stat.S_ISFIFO(os.stat(f"{folder}/fifo").st_mode), os.readlink(f"{folder}/link")), (True, f"{folder}/none"))
     with socket.create_server(("127.0.0.1", PORT)):
         is_so("a start that fails", start(f"{folder}/control"), (1, "arrayd: cannot listen at controller 1 portal 0"))
     is_so("leaves nothing", os.path.exists(f"{folder}/control"), False)
@@ -296,7 +335,7 @@ def beside_the_window(folder):
         session = host()
         session.read(0, 0, 1)
         with socket.create_connection(("127.0.0.1", at)) as peer:
-            peer.sendall(b"GET /status HTTP/1.1\r\nHost: h\r\n\r\n")
+            peer.sendall(b"GET /status HTTP/1.1\r\nHost: localhost\r\n\r\n")
             view = json.loads(all_of(peer).partition(b"\r\n\r\n")[2])["sessions"][0]
         told = sessions(folder)[0x400001370000]
         is_so("the same", [str(view[name]) for name in ("tsih", "controller", "kind", "isid", "peer", "portal", "since", "commands",

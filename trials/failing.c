@@ -45,6 +45,9 @@ enum { TO_READ_BY = 3, LAST_TO_FLUSH_BY = 7 };
 enum kind { MEMORY, OPEN, STATX, FLOCK, LSEEK, PREAD, PWRITE, FDATASYNC, FSYNC, FTRUNCATE, RENAME, ACCEPT, SEND, KINDS };
 enum end { DONE = 1, REFUSED_BY_SYSTEM, FAILED, SHORT, WRITTEN_AND_FAILED };
 
+/* An error of so many and more is none: the call takes that many microseconds longer. */
+enum { SECOND = 1000000 };
+
 /* So many calls of a kind pass, then so many fail with this error. */
 struct row {
     _Atomic int64_t passes, failures;
@@ -140,6 +143,10 @@ static int fails(enum kind kind)
         return 0;
     if (atomic_fetch_sub(&asked->rows[kind].failures, 1) <= 0)
         return 0;
+    if (asked->rows[kind].error >= SECOND) {
+        usleep(asked->rows[kind].error);
+        return 0;
+    }
     errno = asked->rows[kind].error;
     return 1;
 }

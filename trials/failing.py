@@ -46,6 +46,10 @@ class Failing:
         """Behind so many calls of this kind so many fail with this error."""
         ROW.pack_into(self.map, ROW.size * KINDS.index(kind), behind, times, error)
 
+    def slow(self, kind, seconds):
+        """From now on each call of this kind takes so many seconds longer, one at least; with 0 none does."""
+        self.let(kind, int(1_000_000 * seconds), times=EVER if seconds else 0)
+
     def is_over(self, kind):
         """Whether as many of them have failed as were to."""
         return ROW.unpack_from(self.map, ROW.size * KINDS.index(kind))[1] <= 0

@@ -16,17 +16,29 @@ from running import PORT, TARGET, TOP, Array, made, ran
 
 WRONG = "wrong words"
 
-# The words, where P is a port that is free, and what is wrong with them.
+# The words, where P is a port that is free, what is wrong with them, and what of it is named.
 ROWS = [
-    ("", WRONG), ("--help disk", WRONG), ("--once --version", WRONG), ("--port 0 disk", WRONG), ("--port 65529 disk", WRONG),
-    ("--portals 5 disk", WRONG), ("--array 4294967296 disk", WRONG), ("--host localhost disk", WRONG),
-    ("--target= disk", WRONG), ("--once disk", WRONG), ("1 2 3 4 5 6 7 8 9", WRONG), ("--onc", WRONG),
-    ("none", "cannot use unit 0"), ("odd", "cannot use unit 0"), ("empty", "cannot use unit 0"),
-    ("disk none", "cannot use unit 1"), ("noreg", "cannot use registration file 0"),
-    ("disk noreg", "cannot use registration file 1"),
+    ("", WRONG, "DISK"), ("--help disk", WRONG, "Usage"), ("--once --version", WRONG, "--version"), ("--port 0 disk", WRONG, "--port"),
+    ("--port 65529 disk", WRONG, "65529"), ("--portals 5 disk", WRONG, "--portals"), ("--array 4294967296 disk", WRONG, "4294967296"),
+    ("--host localhost disk", WRONG, "--host"), ("--target= disk", WRONG, "--target"),
+    ("--target array disk", WRONG, "--target"), ("--target iqn.2000-01.Test:array disk", WRONG, "--target"),
+    ("--target iqn.2000-1.test:array disk", WRONG, "--target"), ("--target eui.0123456789abcde disk", WRONG, "--target"), ("--once disk", WRONG, "DISK"),
+    ("1 2 3 4 5 6 7 8 9", WRONG, "DISK"), ("--onc", WRONG, "--onc"),
+    ("none", "cannot use unit 0", "it is not there, errno 2: none"), ("odd", "cannot use unit 0", "its length is no multiple of 512: odd"),
+    ("empty", "cannot use unit 0", "it is empty: empty"), ("disk none", "cannot use unit 1", "it is not there, errno 2: none"),
+    ("noreg", "cannot use registration file 0", "it is no registration file: noreg"),
+    ("disk noreg", "cannot use registration file 1", "it is no registration file: noreg"),
     # the first fault ends the program: the words, then each unit with its registration file, then the portals
-    ("--port 0 none", WRONG), ("noreg none", "cannot use registration file 0"), ("--host 192.0.2.1 none", "cannot use unit 0"),
-    ("--host 192.0.2.1 --port P disk", "cannot listen at controller 1 portal 0"),
+    ("--port 0 none", WRONG, "--port"), ("noreg none", "cannot use registration file 0", "noreg"),
+    ("--host 192.0.2.1 none", "cannot use unit 0", "none"),
+    ("--host 192.0.2.1 --port P disk", "cannot listen at controller 1 portal 0", f"192.0.2.1:{PORT}, errno 99"),
+]
+
+# What the environment has, and what of it is named.
+VARIABLES = [
+    ({"ARRAYD_DEADLNE": "5"}, "ARRAYD_DEADLNE"), ({"ARRAYD_": ""}, "ARRAYD_"), ({"ARRAYD_DEADLINE": "0"}, "ARRAYD_DEADLINE"),
+    ({b"ARRAYD_LOG": b"log\xff"}, "ARRAYD_LOG"), ({"ARRAYD_HTTP": "x"}, "ARRAYD_HTTP"), ({"ARRAYD_HOST2": "x"}, "ARRAYD_HOST2"),
+    ({"ARRAYD_CONTROL": "x" * 108}, "ARRAYD_CONTROL"),
 ]
 
 # Which port is taken, counted from P on, and how many portals each controller is to have.
@@ -36,8 +48,8 @@ TAKEN = [
 ]
 
 
-def run(words, text=""):
-    return ran([word.replace("P", str(PORT)) for word in words], text)
+def run(words, text="", **how):
+    return ran([word.replace("P", str(PORT)) for word in words], text, **how)
 
 
 def expect(what, got, wanted):
@@ -45,8 +57,12 @@ def expect(what, got, wanted):
         sys.exit(f"{what}: {got}, and not {wanted}")
 
 
-def refused(words, fault):
-    expect(words, run(words), (2 if fault == WRONG else 1, "", f"arrayd: {fault}\n"))
+def refused(words, fault, named, **how):
+    """The words are refused, by one line that begins with the fault, and names this behind it."""
+    status, said, errors = run(words, **how)
+    expect(words, (status, said, errors[:len(fault) + 8]), (2 if fault == WRONG else 1, "", f"arrayd: {fault}"))
+    if errors.count("\n") != 1 or named not in errors[len(fault) + 8:]:
+        sys.exit(f"{words}: {errors!r} does not name {named!r}")
 
 
 def tells_of_itself():
@@ -75,22 +91,24 @@ def main():
             made(name, blocks)
         os.truncate("odd", 16 * 512 + 1)
         tells_of_itself()
-        for words, fault in ROWS:
-            refused(words.split(), fault)
+        for words, fault, named in ROWS:
+            refused(words.split(), fault, named)
+        for more, named in VARIABLES:
+            refused(["disk"], WRONG, f": {named}\n", more=more)
         for taken, portals, fault in TAKEN:
             with socket.socket() as other:
                 other.bind(("127.0.0.1", PORT + taken))
                 other.listen()
-                refused(["--port", "P", "--portals", str(portals), "disk"], fault)
+                refused(["--port", "P", "--portals", str(portals), "disk"], fault, f"127.0.0.1:{PORT + taken}, errno 98")
         words = ["--port", "P", "disk"]
         status = "unit 0 owner 1 states 0 1 generation 0 keys 0 type 0 entries 0\n"
         expect("the console", run(words, "x\nstatus\nquit\nstatus\n"), (0, "arrayd: ready\n?\n" + status, ""))
         expect("a last line without its end", run(words, "status"), (0, "arrayd: ready\n" + status, ""))
         with Array(["disk"]) as first:
-            refused(["--port", str(PORT + 8), "disk"], "cannot use unit 0")
+            refused(["--port", str(PORT + 8), "disk"], "cannot use unit 0", "another server has it, or another unit: disk")
             expect("quit", first.quit(), 0)
         quit_beside_a_session()
-    print(f"{len(ROWS) + len(TAKEN)} faults, the console, one server a disk, and quit, as they should be")
+    print(f"{len(ROWS) + len(VARIABLES) + len(TAKEN)} faults, the console, one server a disk, and quit, as they should be")
 
 
 if __name__ == "__main__":

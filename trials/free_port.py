@@ -6,6 +6,7 @@ usage: trials/free_port.py
 """
 
 import itertools
+import os
 import random
 import socket
 import sys
@@ -15,7 +16,14 @@ HOST, APART = "127.0.0.1", 4
 FIRST, BEHIND, TOGETHER = 20000, 30000, 16
 COUNT = (BEHIND - FIRST) // TOGETHER
 # In an order of this process, in which none comes again before all others did: what was given just now may not be taken yet.
-TRIED = itertools.cycle(random.sample(range(FIRST, BEHIND, TOGETHER), COUNT))
+TRIED = {}
+
+
+def tried():
+    # a process that was forked has an order of its own
+    if os.getpid() not in TRIED:
+        TRIED[os.getpid()] = itertools.cycle(random.SystemRandom().sample(range(FIRST, BEHIND, TOGETHER), COUNT))
+    return TRIED[os.getpid()]
 
 
 def is_free(port):
@@ -31,7 +39,7 @@ def is_free(port):
 
 def free_port():
     """The first of so many free ports, other ones at each call."""
-    for port in itertools.islice(TRIED, COUNT):
+    for port in itertools.islice(tried(), COUNT):
         if all(is_free(port + above) for above in range(TOGETHER)):
             return port
     sys.exit(f"no {TOGETHER} ports are free")

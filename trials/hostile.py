@@ -2,16 +2,20 @@
 """Connections that send nothing, garbage, or half a login, beside one session that works and has to go on: it writes and reads
 back all the time. Ends with status 1 where it does not.
 
-usage: trials/hostile.py HOST PORT [CONNECTIONS]
+usage: trials/hostile.py [--connections COUNT]              starts an array; 1000 connections where nothing is said
+       trials/hostile.py [--connections COUNT] HOST PORT    with one that runs
 """
 
+import argparse
 import os
 import random
 import resource
 import socket
 import sys
+import tempfile
 
 from initiator import Session, discover
+from running import Array, made
 
 
 def garbage(chance):
@@ -28,11 +32,7 @@ def garbage(chance):
     return b"\x01\xc1" + bytes(46)
 
 
-def main():
-    host, port = sys.argv[1], int(sys.argv[2])
-    count = int(sys.argv[3]) if len(sys.argv) > 3 else 1000
-    limit = resource.getrlimit(resource.RLIMIT_NOFILE)[1]
-    resource.setrlimit(resource.RLIMIT_NOFILE, (min(limit, count + 200), limit))
+def tried(host, port, count):
     chance = random.Random(1)
     target = next(iter(discover(host, port)))
     with Session(host, port, target) as session:
@@ -50,7 +50,23 @@ def main():
             other.ready(0)
             if other.read(0, (count - 1) % 1000, 1) != block:
                 sys.exit("another block was read")
-        print(f"{count} connections, and the session goes on; another one logs in")
+    print(f"{count} connections, and the session goes on; another one logs in")
+
+
+def main():
+    words = argparse.ArgumentParser(usage=__doc__.split("usage: ")[1])
+    words.add_argument("--connections", type=int, default=1000)
+    words.add_argument("host", nargs="?")
+    words.add_argument("port", nargs="?", type=int)
+    words = words.parse_args()
+    limit = resource.getrlimit(resource.RLIMIT_NOFILE)[1]
+    resource.setrlimit(resource.RLIMIT_NOFILE, (min(limit, words.connections + 200), limit))
+    if words.port is not None:
+        return tried(words.host, words.port, words.connections)
+    with tempfile.TemporaryDirectory() as folder, Array([made(os.path.join(folder, "disk"), 2048)]) as array:
+        tried(*array.portal(1), words.connections)
+        if array.quit() != 0:
+            sys.exit("the array did not end well")
 
 
 if __name__ == "__main__":

@@ -8,7 +8,7 @@ from failing import KINDS, shared
 from free_port import free_port
 from initiator import Closed, Refused, Session
 from may_be import BY_A_DEVICE, told
-from running import PATIENCE, READY, TARGET, Array, Wrong, library
+from running import PATIENCE, READY, TARGET, Array, Wrong, faults, library
 
 # The list of trials/failing.c.
 ENDS = ("", "done", "refused by the system", "failed", "written by half", "written and failed")
@@ -112,16 +112,24 @@ class Life:
         if line:
             raise Wrong(f"it says {line!r}, though a call has failed")
         unit, file = failed[0].unit, failed[0].file
-        wanted = f"arrayd: cannot use {'unit' if file == DISK else 'registration file'} {unit}\n"
-        self.ends(1, wanted)
+        # a folder is flushed for the registration file, and for the one that says as which unit the disk is served
+        of = {DISK: ("unit",), FOLDER: ("registration file", "unit")}.get(file, ("registration file",))
+        got = self.last_words("")
+        self.say(f"ended with {got}")
+        if got not in [(1, "", f"arrayd: cannot use {what} {unit}") for what in of]:
+            raise Wrong(f"status, output and errors at its end are {got}, and not those of {of}")
         self.came("status 1")
         return False
 
     def ends(self, status, errors="", told=""):
-        got, wanted = self.array.last_words(told), (status, "", errors)
+        got, wanted = self.last_words(told), (status, "", errors)
         self.say(f"ended with status {got[0]}, {got[2]!r}")
         if got != wanted:
             raise Wrong(f"status, output and errors at its end are {got}, and not {wanted}")
+
+    def last_words(self, told):
+        status, said, errors = self.array.last_words(told)
+        return status, said, faults(errors)
 
     def kill(self):
         self.array.process.kill()
@@ -130,9 +138,15 @@ class Life:
 
     def quit(self):
         place = self.calls.count()
-        self.ends(0, told="quit\n")
+        got = self.last_words("quit\n")
         seen = self.calls.since(place)
-        self.heard("quit", "status 0", seen)
+        lost = {call.unit for call in seen if call.has_failed() and call.file == DISK and call.kind in FLUSHES}
+        lost |= {unit.number for unit in self.units if unit.is_disk_lost}
+        unit = min(lost, default=None)
+        wanted = (3, f"not flushed {unit}\n", f"arrayd: unit {unit} was not flushed") if lost else (0, "", "")
+        if got != wanted:
+            raise Wrong(f"status, output and errors of quit are {got}, and not {wanted}")
+        self.heard("quit", f"status {got[0]}", seen)
         for unit in self.units:
             flushes = self.calls_of([call for call in seen if call.unit == unit.number], unit, DISK, FLUSHES)
             if not flushes and not unit.is_disk_lost and not unit.is_flushed:

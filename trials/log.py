@@ -72,7 +72,7 @@ def off_by_default(folder, log):
         is_so("standard error", array.process.stderr.read(), "")
     with Array([folder + "/disk"], log="") as array:
         array.quit()
-    is_so("files", sorted(os.listdir(folder)), ["disk", "disk.reg"])
+    is_so("files", sorted(os.listdir(folder)), ["disk", "disk.reg", "disk.unit"])
     is_so("lines", log.all(), [])
 
 

@@ -227,8 +227,7 @@ def removed(machine):
     left = machine.run("find / -xdev -name '*arrayd*' -not -path '/proc/*' -not -path '/var/lib/arrayd/*' -not -path '/var/log/journal/*'; "
                        "find /var/lib/arrayd -type f -o -type l")[1]
     check("disks and registrations stay, and nothing else", set(left.split()) == {
-        "/var/lib/arrayd", "/var/lib/arrayd/one/unit0", "/var/lib/arrayd/one/unit0.reg", "/var/lib/arrayd/one/unit1",
-        "/var/lib/arrayd/one/unit1.reg"}, left)
+        "/var/lib/arrayd", *(f"/var/lib/arrayd/one/unit{unit}{end}" for unit in (0, 1) for end in ("", ".reg", ".unit"))}, left)
     machine.run(f"{APT} install /packages/newer.deb; touch /var/lib/arrayd/one/remove-on-purge; {APT} purge arrayd")
     check("a purge that was asked for it takes them", machine.run("ls -d /var/lib/arrayd")[0] != 0)
     machine.run("sync")

@@ -58,13 +58,13 @@ class Model:
         self.pending = {nexus: [POWER_ON] for nexus in NEXUSES}
 
     def reset(self, sender):
-        for nexus in NEXUSES:
+        for nexus in self.pending:
             if nexus != sender:
                 self.pending[nexus] = [POWER_ON]
 
     def tell(self, nexuses, code, sender):
         for nexus in nexuses:
-            if nexus != sender and code not in self.pending[nexus]:
+            if nexus != sender and nexus in self.pending and code not in self.pending[nexus]:
                 self.pending[nexus].append(code)
 
     def holds(self, nexus):

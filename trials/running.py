@@ -98,9 +98,14 @@ def ran(words, came="", seconds=60, **how):
 
 
 def ended(words, **how):
-    """Exit status and standard error of a start that fails."""
+    """Exit status and standard error of a start that fails, without which word, file or error it was."""
     status, _, errors = ran(words, **how)
-    return status, errors.strip()
+    return status, faults(errors.strip())
+
+
+def faults(errors):
+    """Each line of standard error without what stands behind its second colon."""
+    return "\n".join(": ".join(line.split(": ")[:2]) for line in errors.split("\n"))
 
 
 class Array:

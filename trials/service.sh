@@ -69,15 +69,17 @@ is 'nobody is told to quit twice' "$(console quit; echo $?)" 'arrayd-console: no
 3'
 is 'registration files lie beside the links' "$(ls "$place/state")" 'unit0
 unit0.reg
+unit0.unit
 unit1
-unit1.reg'
+unit1.reg
+unit1.unit'
 begin unit0 unit1
 is 'started anew, each unit is with its own controller' "$(sed 's/ generation.*//' "$place/status")" \
     'unit 0 owner 1 states 0 1
 unit 1 owner 2 states 1 0'
 first=$pid
 other=$(mkdir "$place/other" && cd "$place/state" && "$OLDPWD/service/arrayd-run" "$place/other" --port "$port" unit0 2>&1; echo $?)
-is 'a second one over the same disk is refused' "$other" 'arrayd: cannot use unit 0
+is 'a second one over the same disk is refused' "$other" 'arrayd: cannot use unit 0: another server has it, or another unit: unit0
 1'
 is 'and the first is there still' "$(kill -0 "$first" && echo there)" there
 # a session that lives holds up no end
@@ -102,7 +104,7 @@ ends
 is 'SIGTERM ends it' $ended 143
 begin missing
 ends
-is 'a fault at the start is told, and the status is 1' "$(cat "$place/complains") $ended" 'arrayd: cannot use unit 0 1'
+is 'a fault at the start is told, and the status is 1' "$(cat "$place/complains") $ended" 'arrayd: cannot use unit 0: it is not there, errno 2: missing 1'
 
 # links to disks that lie elsewhere, which the start makes
 begin unit0 linked="$place/disk1"

@@ -8,6 +8,7 @@ Some want root, a loop device or a file system of their own, and say so where th
 """
 
 import contextlib
+import errno
 import os
 import shutil
 import socket
@@ -17,11 +18,12 @@ import threading
 import time
 
 from cases import (
-    Cases, Mounted, NotHere, end_of, fill, flush, is_so, lines, login, read, refusal, root, run, write,
+    ISID, Cases, Mounted, NotHere, end_of, fill, flush, is_so, lines, login, read, refusal, root, run, until, write,
 )
+from failing import Failing, is_there
 from free_port import free_port
 from initiator import BUSY, GOOD, RESERVATION_CONFLICT, Closed, Session, discover
-from running import PORT, TARGET, Array, Wrong, ended, made
+from running import PORT, TARGET, Array, Wrong, ended, library, made
 
 NOBODY = 65534
 CASES = Cases()
@@ -59,10 +61,9 @@ def words_that_the_log_names(folder):
     for words, what in ((["--target", "", disk], "--target"), (["--host", "localhost", disk], "--host"), ([], "DISK"),
                         ([disk] * 9, "DISK"), (["--once", disk], "DISK")):
         is_so(f"{words}", told(words), f'"{what}"')
-    for variable, text in (("ARRAYD_DEADLINE", "0"), ("ARRAYD_HOST2", "localhost"), ("ARRAYD_HTTP", "9860"), ("ARRAYD_HTTP", "127.0.0.1:0")):
+    for variable, text in (("ARRAYD_DEADLINE", "0"), ("ARRAYD_HOST2", "localhost"), ("ARRAYD_HTTP", "9860"), ("ARRAYD_HTTP", "127.0.0.1:0"),
+                           ("ARRAYD_CONTROL", folder + "/" + "x" * 120), ("ARRAYD_CONTROLS", "")):
         is_so(f"{variable}={text}", told([disk], **{variable: text}), f'"{variable}"')
-    path = folder + "/" + "x" * 120
-    is_so("a path too long", told([disk], ARRAYD_CONTROL=path), f'"{path}"')
     is_so("an escape in a word", "\x1b" not in told(["--\x1b[2J", disk]), True)
     is_so("a control socket's folder", ended([disk], log=log, more={"ARRAYD_CONTROL": folder + "/none/control"}),
           (1, "arrayd: cannot make the control socket"))
@@ -114,6 +115,40 @@ def registration_file_that_cannot_be_made(folder):
     os.chown(disk, NOBODY, NOBODY)
     os.chmod(folder, 0o755)
     is_so("in a folder of root's", ended([disk], user=NOBODY), (1, "arrayd: cannot use registration file 0"))
+
+
+@case
+def files_where_a_registration_file_is_begun(folder):
+    """What lies there is another unit's disk perhaps, or what an earlier stop left, and keeps its bytes."""
+    disk, other, kept = (made(f"{folder}/{name}", 16) for name in ("d", "d.reg.new", "kept"))
+    os.symlink(kept, other + ".reg.new")
+    for path in (other, kept):
+        with open(path, "r+b") as file:
+            file.write(b"mine")
+    with Array([disk, other]) as array:
+        array.quit()
+    for path in (other, kept):
+        with open(path, "rb") as file:
+            is_so(path, (file.read(4), os.path.getsize(path)), (b"mine", 16 * 512))
+    is_so("nothing else is left", sorted(os.listdir(folder)), ["d", "d.reg", "d.reg.new", "d.reg.new.reg", "d.reg.new.reg.new",
+                                                               "d.reg.new.unit", "d.unit", "kept"])
+    for number in ("", *range(1, 10)):
+        os.symlink("none", f"{kept}.reg.new{number}")
+    is_so("where all names are taken", ended([kept]), (1, "arrayd: cannot use registration file 0"))
+    is_so("none is made", os.path.exists(f"{kept}.reg"), False)
+
+
+@case
+def registration_file_whose_name_may_not_last(folder):
+    """A start that a kill cut off may have left it so: each start flushes the folder."""
+    if not is_there():
+        raise NotHere("no C compiler")
+    disk, failing = made(folder + "/disk", 16), Failing(folder)
+    for kind in ("a first start", "a second one"):
+        failing.let("fsync", errno.EIO, behind=1 if kind == "a first start" else 0)
+        is_so(kind, ended([disk], more=failing.environment), (1, "arrayd: cannot use registration file 0"))
+    with Array([disk], more=failing.environment) as array:
+        array.quit()
 
 
 @case
@@ -256,7 +291,7 @@ def log_that_cannot_be_written(folder):
     with Array([made(folder + "/disk", 16)], log=folder + "/none/log") as array:
         is_so("it is served", write(login()), GOOD)
         array.quit()
-        is_so("standard error", array.process.stderr.read(), "arrayd: cannot write the log\n")
+        is_so("standard error", array.process.stderr.read(), f"arrayd: cannot write the log: errno 2: {folder}/none/log\n")
 
 
 @case
@@ -315,6 +350,51 @@ def two_hosts_of_one_name(folder):
 
 
 @case
+def login_that_takes_its_time(folder):
+    """A login has thirty seconds, however often bytes come."""
+    with Array([made(folder + "/disk", 16)]) as array, socket.create_connection(array.portal(1)) as peer:
+        began = time.monotonic()
+        with contextlib.suppress(ConnectionError):
+            while time.monotonic() - began < 60:
+                peer.sendall(b"\x43")
+                peer.settimeout(1)
+                with contextlib.suppress(TimeoutError):
+                    if not peer.recv(1):
+                        break
+        is_so("its connection is closed", 29 < time.monotonic() - began < 34, True)
+        is_so("another one logs in", write(login()), GOOD)
+        array.quit()
+
+
+class GivenUp(Session):
+    """A login whose connection ends behind its last request."""
+
+    def receive(self):
+        if self.tag == 2:
+            raise Closed()
+        return super().receive()
+
+
+@case
+def login_that_was_given_up(folder):
+    """It waits for its turn, and does not end the session that lives by then."""
+    slow = {"LD_PRELOAD": library("bench/slow_disk.c", folder), "SLOW_DISK": folder, "SLOW_FLUSH": "3000000"}
+    with Array([made(folder + "/disk", 16)], more=slow) as array:
+        living, other = login(number=5), login(number=6)
+        other.submit(0, [0x28, 8, 0, 0, 0, 0, 0, 0, 1], expected=512)
+        time.sleep(0.5)
+        waits = threading.Thread(target=login, kwargs={"number": 7})
+        waits.start()
+        time.sleep(0.5)
+        with contextlib.suppress(Closed):
+            GivenUp(*array.portal(1), TARGET, "iqn.2000-01.test:host", ISID + 5)
+        waits.join()
+        time.sleep(0.5)
+        is_so("the session goes on", write(living), GOOD)
+        array.quit()
+
+
+@case
 def two_arrays_of_one_number(folder):
     pages = []
     for number in (1, 1, 2):
@@ -328,19 +408,28 @@ def two_arrays_of_one_number(folder):
 
 @case
 def disks_in_another_order(folder):
-    disks = [made(f"{folder}/{unit}", 16) for unit in (0, 1)]
-    for order in (disks, disks[::-1]):
-        with Array(order) as array:
-            session = login()
-            session.ready(1)
-            serial = session.inquiry(0, 0x80)[4:]
-            if order is disks:
-                write(session, text=b"of the first")
-                first = serial
-            else:
-                is_so("the same serial number", serial, first)
-                is_so("before another disk", session.read(0, 0, 1)[:3], bytes(3))
-            array.quit()
+    disks, log = [made(f"{folder}/{unit}", 16) for unit in (0, 1)], folder + "/log"
+    with Array(disks) as array:
+        is_so("a write", write(login(), text=b"of the first"), GOOD)
+        array.quit()
+    refused = "unit 0 of array 1 is unit 1 of array 1"
+    for more in ({}, {"ARRAYD_DEADLINE": "5"}):
+        is_so("in another order", ended(disks[::-1], log=log, more=more), (2, f"arrayd: {refused}"))
+    is_so("the log", lines(log, "wrong_words")[-1].split(" what=", 1)[1], f'"{refused}: {disks[1]}"')
+    is_so("the second alone", ended(disks[1:]), (2, f"arrayd: {refused}"))
+    is_so("of another array", ended(["--array", "7", *disks]), (2, "arrayd: unit 0 of array 7 is unit 0 of array 1"))
+    with open(disks[0] + ".unit", encoding="ascii") as file:
+        is_so("what a disk remembers", file.read(), "unit 0 array 1\n")
+    with Array(disks) as array:
+        is_so("in their order", login().read(0, 0, 1)[:12], b"of the first")
+        array.quit()
+    for disk in disks:
+        os.remove(disk + ".unit")
+    with Array(disks[::-1]) as array:
+        session = login()
+        session.ready(1)
+        is_so("where it is meant so", session.read(1, 0, 1)[:12], b"of the first")
+        array.quit()
 
 
 @case
@@ -649,7 +738,8 @@ def flush_failed(folder):
                   (["down"], "06 2A/06", "02 04/0C"))
             second = login(2, 1)
             is_so("by the other controller", flush(second), "03 0C/00")
-            is_so("it ends all the same", array.quit(), 0)
+            is_so("it ends all the same, and says so", array.last_words("quit\n"),
+                  (3, "not flushed 0\n", f"arrayd: unit 0 was not flushed: {folder}/unit0\n"))
         with Array([folder + "/unit0"]) as array:
             session = login()
             is_so("after a restart", (write(session, 8), flush(session)), (GOOD, GOOD))
@@ -728,9 +818,26 @@ def hung(folder):
                     time.sleep(0.1)
                 else:
                     raise Wrong("quit waits")
-            is_so("the system's own calls came back, and the process is gone", array.process.wait(20), 0)
+            is_so("the system's own calls came back, and the process is gone", array.process.wait(20), 3)
         told = [line.split("event=", 1)[1] for line in lines(log, "hung")]
         is_so("the log", told, ["hung unit=0 file=disk call=write", "hung unit=0 file=registrations call=write"])
+
+
+@case
+def hung_and_back(folder):
+    with Mounted(folder) as place:
+        log = folder + "/log"
+        with Array(place.that_hangs(), log=log, more={"ARRAYD_DEADLINE": "2"}) as array:
+            session = login()
+            is_so("writes and flushes", (write(session), flush(session)), (GOOD, GOOD))
+            with place.frozen():
+                is_so("a write", write(session, text=b"late"), "03 0C/00")
+                is_so("registrations", end_of(session.reserve_out(0, 6, new_key=1, aptpl=True)), "04 44/00")
+            is_so("it comes back", until(lambda: len(lines(log, "back")) == 2), True)
+            is_so("then", (write(session), read(session), flush(session)), (GOOD, GOOD, GOOD))
+            is_so("registrations", end_of(session.reserve_out(0, 6, new_key=1, aptpl=True)), GOOD)
+            is_so("a host that asks", take(login(2, 1), 2), GOOD)
+            array.quit()
 
 
 @case

@@ -59,7 +59,7 @@ def build(folder):
     pack(folder, root, order)
 
 
-def take_modules(folder, root):
+def take_modules(folder, root, modules=MODULES):
     """Copies the modules that are used, and what they need: their files, in the order in which they are loaded."""
     unpacked, version = take_kernel(folder)
     every = os.path.join(root, "every")
@@ -69,7 +69,7 @@ def take_modules(folder, root):
 
     def files():
         found = []
-        for name in MODULES:
+        for name in modules:
             words = ["chroot", root, "modprobe", "-d", "/every", "-S", version, "--show-depends", name]
             told = subprocess.run(words, check=True, stdout=subprocess.PIPE, text=True).stdout
             lines = [line for line in told.splitlines() if line.startswith("insmod")]

@@ -164,9 +164,13 @@ class Machine:
             self.process.wait()
         self.disk.lose_power(keeps)
 
+    def shell(self):
+        """Where its shell listens."""
+        return HOST, self.port(SHELL)
+
     def ask(self, script, seconds=PATIENCE):
         """What a script says there, by its shell. It has to end well."""
-        with socket.create_connection((HOST, self.port(SHELL)), seconds) as end:
+        with socket.create_connection(self.shell(), seconds) as end:
             end.sendall(f"set -e\n{script}\necho done\n".encode())
             end.shutdown(socket.SHUT_WR)
             told = b""

@@ -19,6 +19,7 @@ BLOCKS_OF_HOST = 64
 REGISTRANTS_ONLY, PREEMPT_AND_ABORT = 5, 5
 ISID = 0x400001370000
 MISCOMPARE = (0x0E, 0x1D, 0x00)
+READ_FAILED, WRITE_FAILED, SAVE_FAILED = (0x03, 0x11, 0x00), (0x03, 0x0C, 0x00), (0x04, 0x44, 0x00)
 LOST = (Closed, Refused, OSError)
 # A command that is not answered for so long ends with the connection: the machine is dead, and nobody may say so.
 SECONDS = 900
@@ -40,6 +41,8 @@ class Registrations:
     def __init__(self, is_lasting):
         self.is_lasting, self.lock = is_lasting, threading.Lock()
         self.now, self.or_else = Registry(), None
+        # what the file may have though the save was answered as failed, by a later start
+        self.in_file = []
 
     def ask(self, host, by, unit, action, kind=0, key=0, new_key=0):
         """Sends a PERSISTENT RESERVE OUT, whose answer has to be that of the rules."""
@@ -53,10 +56,15 @@ class Registrations:
             reply = host.paths[by].reserve_out(unit, action, kind, key, new_key, self.is_lasting)
             if reply.status == BUSY:
                 self.or_else = None
+            if reply.sense_key() == SAVE_FAILED:
+                self.in_file.append(model)
+            if reply.status == BUSY or reply.sense_key() == SAVE_FAILED:
                 raise Failed(reply)
             if (reply.status, reply.sense_key()) != wanted:
                 raise Wrong(f"{host.name} unit {unit}: action {action}: {told(reply)}, and not {wanted}")
             self.now, self.or_else = model if wanted[0] == GOOD else self.now, None
+            if wanted[0] == GOOD and self.is_lasting:
+                self.in_file = []
 
     def key_of(self, host, by):
         """The key by which a path is registered, 0 where it is not."""
@@ -66,11 +74,12 @@ class Registrations:
         """What may be there after a start, or where the array has not ended."""
         known = [each for each in (self.now, self.or_else) if each]
         if has_ended:
-            return [each.lasting() for each in known]
+            return [each.lasting() for each in (*known, *self.in_file)]
         return [(each.aptpl, frozenset(each.keys.items()), each.kind, each.holder) for each in known]
 
-    def found(self, record):
-        """This is there after a start."""
+    def found(self, record, has_ended):
+        """This is there after a start, or where the array has not ended."""
+        self.in_file = [] if has_ended else self.in_file
         self.now, self.or_else = Registry((record[0], tuple(record[1]), record[2], record[3])), None
 
 
@@ -92,13 +101,13 @@ class Host:
         """Its initiator port, as a TransportID names it, and the relative target port."""
         return f"{self.name},i,0x{ISID + by:012x}", by + 1
 
-    def log_in(self, base, until):
-        """Logs in by both controllers, tried again until this time."""
+    def log_in(self, base, until, address=HOST):
+        """Logs in by both controllers of an array there, tried again until this time."""
         self.close()
         for by, at in enumerate((CONTROLLER_1, CONTROLLER_2)):
             while True:
                 try:
-                    session = Session(HOST, base + at, TARGET, self.name, isid=ISID + by, timeout=SECONDS)
+                    session = Session(address, base + at, TARGET, self.name, isid=ISID + by, timeout=SECONDS)
                     for unit in UNITS:
                         session.ready(unit)
                     self.paths.append(session)
@@ -145,8 +154,10 @@ class Host:
             self.may(unit, at).append(count)
         try:
             path.write(unit, lba, data, fua)
-        except Failed:
-            self.never(unit, lba, blocks, count)
+        except Failed as failed:
+            # a device that failed may have done it, or may still do it
+            if failed.reply.status == BUSY:
+                self.never(unit, lba, blocks, count)
             raise
         self.good(unit, lba, blocks, count)
         if fua:
@@ -166,6 +177,8 @@ class Host:
                 self.never(unit, lba, 1, count)
             raise Failed(reply)
         found = reply.sense_key() if reply.status == CHECK_CONDITION else reply.status
+        if found in (READ_FAILED, WRITE_FAILED):
+            raise Failed(reply)
         if found != (MISCOMPARE if is_miss else GOOD):
             raise Wrong(f"{self.name} unit {unit} LBA {lba}: COMPARE AND WRITE: {told(reply)}")
         if is_miss:
@@ -200,6 +213,8 @@ class Host:
             self.good(unit, lba, 1, count)
         elif reply.status == RESERVATION_CONFLICT:
             self.never(unit, lba, 1, count)
+        elif reply.sense_key() == WRITE_FAILED:
+            raise Failed(reply)
         else:
             raise Wrong(f"{self.name} unit {unit}: WRITE: {told(reply)}")
         return reply.status == GOOD
@@ -257,10 +272,10 @@ class Hosts:
     def all(self):
         return [*self.nodes, self.fenced]
 
-    def log_in(self, base, seconds=120):
+    def log_in(self, base, seconds=120, address=HOST):
         until = time.monotonic() + seconds
         for host in self.all():
-            host.log_in(base, until)
+            host.log_in(base, until, address)
 
     def close(self):
         for host in self.all():
@@ -377,7 +392,7 @@ class Hosts:
             found, may = registrations_found(self.nodes[0].paths[0], unit), self.registrations[unit].may_be(has_ended)
             if found not in may:
                 wrong.append(f"unit {unit}: registered is {found}, and that may be {may}")
-            self.registrations[unit].found(found)
+            self.registrations[unit].found(found, has_ended)
             allows = [self.registrations[unit].now.allows(self.fenced.nexus(by), True) for by in range(2)]
             is_let_in = self.is_let_in(unit)
             if is_let_in != allows:

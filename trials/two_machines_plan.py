@@ -33,9 +33,9 @@ NUMBERS = ((1, "a"), (2, "b"))
 ORDER = ("folder", "address", "array")
 
 
-def block_of(marker):
+def block_of(marker, page=PAGE):
     """The indented lines of the page that follow the first line with this in it."""
-    with open(PAGE, encoding="utf-8") as file:
+    with open(page, encoding="utf-8") as file:
         lines = file.read().split(marker, 1)[1].splitlines()[1:]
     found = []
     for line in lines:

@@ -9,6 +9,7 @@ The program is ./arrayd, or what the environment's ARRAYD names. promtool and pr
 not there, their cases say so.
 """
 
+import errno
 import json
 import os
 import re
@@ -19,6 +20,7 @@ import threading
 import time
 
 from cases import Cases, Mounted, NotHere, end_of, flush, is_so, until, write
+from failing import Failing
 from free_port import free_port
 from initiator import GOOD, RESERVATION_CONFLICT, Session
 from running import PORT, TARGET, TOP, Array, Wrong, ended, made, ran
@@ -63,8 +65,8 @@ def asked(request, seconds=8):
     return (int(lines[0].split()[1]) if lines[0] else None), fields, body
 
 
-def get(path):
-    return asked(f"GET {path} HTTP/1.1\r\nHost: here\r\n\r\n".encode())
+def get(path, host=None):
+    return asked(f"GET {path} HTTP/1.1\r\nHost: {host or f'127.0.0.1:{AT}'}\r\n\r\n".encode())
 
 
 def metrics():
@@ -204,7 +206,7 @@ def sessions(folder):
         is_so("since", abs(seen[1]["since"] - began) < 3, True)
         is_so("peer", seen[1]["peer"], "127.0.0.1:%d" % first.socket.getsockname()[1])
         is_so("portal", seen[2]["portal"], f"127.0.0.1:{PORT + 4}")
-        is_so("gauge", value(metrics(), "arrayd_sessions", controller=1), 1)
+        is_so("gauge", value(metrics(), "arrayd_sessions", controller=1, type="normal"), 1)
         read = value(metrics(), "arrayd_commands_total", unit=0, controller=1, operation="read")
         first.logout()
         until(lambda: len(status()["sessions"]) == 1)
@@ -240,7 +242,11 @@ def controllers(folder):
         is_so("owners then", [unit["owner"] for unit in view["units"]], [2, 2])
         is_so("states", [[path["state"] for path in unit["paths"]] for unit in view["units"]], [[3, 0], [3, 0]])
         is_so("disk", view["units"][1]["disk"], f"{folder}/disk1")
-        is_so("health", get("/health")[::2], (200, b"ok\n"))
+        is_so("degraded", get("/health")[::2], (200, b"degraded: controller 1 is down: no unit is served by it\n"))
+        found = metrics()
+        is_so("in numbers", [value(found, "arrayd_problems"), value(found, "arrayd_degraded"),
+                             value(found, "arrayd_controller_down", controller=1),
+                             value(found, "arrayd_controller_down", controller=2)], [0, 1, 1, 0])
         array.quit()
 
 
@@ -250,10 +256,14 @@ def names(folder):
         open_ = [host(1, name, 0x400001370000 + at) for at, name in enumerate(HOSTILE)]
         found = {one["isid"]: one["initiator"] for one in status()["sessions"]}
         for at, name in enumerate(HOSTILE):
-            spelled = found[hex(0x400001370000 + at)]
-            is_so("plain", all(32 <= ord(c) < 127 for c in spelled), True)
-            said = re.sub(rb'\\x([0-9a-f]{2})|\\(["\\])', lambda m: bytes([int(m[1], 16)]) if m[1] else m[2], spelled.encode())
-            is_so("the name", said, name.encode())
+            is_so("the name", found[hex(0x400001370000 + at)], name)
+        for (metric, labels), _ in metrics().items():
+            if metric == "arrayd_session_commands_total":
+                at = int(dict(labels)["isid"], 16) - 0x400001370000
+                # the spelling of Prometheus, and in it that of the log for what is no printing character
+                text = re.sub(r'\\(["\\])', r"\1", dict(labels)["initiator"])
+                said = re.sub(rb'\\x([0-9a-f]{2})', lambda m: bytes([int(m[1], 16)]), text.encode())
+                is_so("the name in a label", said, HOSTILE[at].encode())
         is_so("samples", sum(name == "arrayd_session_commands_total" for name, _ in metrics()), len(HOSTILE))
         for session in open_:
             session.close()
@@ -263,13 +273,13 @@ def names(folder):
 # ---- what is wrong
 
 def wrong(unit, trouble):
-    """/health tells of this trouble of a unit as the page of trouble has it, /metrics and /status too."""
+    """/health tells of this trouble of a unit as the page of trouble has it, with what failed; /metrics and /status too."""
     with open(f"{TOP}/docs/TROUBLE.md", encoding="utf-8") as file:
         page = " ".join(file.read().replace("**", "").split())
     code, _, said = get("/health")
     is_so("health", code, 503)
     for line in said.decode().splitlines():
-        words_ = re.fullmatch(f"unit {unit}: (.*)", line)[1]
+        words_ = re.fullmatch(f"unit {unit}: (.*?)(?: call=[a-z]+ error=[a-zA-Z]+ count=[0-9]+ began=[^ ]*Z last=[^ ]*Z)?", line)[1]
         if words_ not in page:
             raise Wrong(f"docs/TROUBLE.md does not say: {words_}")
     view = status()
@@ -286,9 +296,115 @@ def disk_that_became_shorter(folder):
         is_so("well", (get("/health")[::2], status()["units"][1]["health"]), ((200, b"ok\n"), "well"))
         os.truncate(f"{folder}/disk1", 512)
         is_so("a read", session.command(1, [0x28, 0, 0, 0, 0, 100, 0, 0, 1, 0], expected=512).sense_key(), (3, 0x11, 0))
-        is_so("health", wrong(1, "calls_failed"), "calls on it failed")
+        is_so("health", wrong(1, "calls_failed"), "calls on it fail")
         is_so("calls", value(metrics(), "arrayd_device_failures_total", unit=1, file="disk", call="read"), 1)
+        os.truncate(f"{folder}/disk1", 4096 * 512)
+        session.read(1, 99, 1)
+        is_so("another block", get("/health")[0], 503)
+        session.read(1, 98, 4)
+        over(1, "disk", "read", "none")
         is_so("sense 3", value(metrics(), "arrayd_check_conditions_total", unit=1, controller=2, sense_key="0x3"), 1)
+        array.quit()
+
+
+def over(unit, file, call, error):
+    """/health is well again, and /status keeps what was."""
+    is_so("well again", get("/health")[::2], (200, b"ok\n"))
+    view = status()["units"][unit]
+    is_so("words", view["health"], "well")
+    kept = [one for one in view["failures"] if (one["file"], one["call"]) == (file, call)]
+    is_so("kept", [(one["error"], one["is_now"]) for one in kept], [(error, False)])
+    is_so("times", kept[0]["began"] <= kept[0]["last"] <= kept[0]["ended"] <= time.time() + 1, True)
+    is_so("lately", kept[0]["began"] > time.time() - 120, True)
+
+
+@case
+def write_that_found_no_room(folder):
+    """A write fails by ENOSPC, which is told until a flush behind it is GOOD; one of another unit changes nothing."""
+    failing = Failing(folder)
+    disks = [made(f"{folder}/disk{unit}", 4096) for unit in range(2)]
+    with Array(disks, more={"ARRAYD_HTTP": f"127.0.0.1:{AT}", **failing.environment}) as array:
+        session = host()
+        failing.let("pwrite", errno.ENOSPC)
+        is_so("the write", end_of(session.command(0, [0x2A, 0, 0, 0, 0, 7, 0, 0, 1, 0], out=bytes(512))), "03 0C/00")
+        is_so("health", wrong(0, "calls_failed"), "calls on it fail")
+        is_so("of room", b"The file system is full: make room. call=write error=ENOSPC count=1 " in get("/health")[2], True)
+        session.write(0, 0, bytes(512))
+        session.flush(1)
+        is_so("not yet", get("/health")[0], 503)
+        is_so("a flush", flush(session), GOOD)
+        over(0, "disk", "write", "ENOSPC")
+        is_so("counted", value(metrics(), "arrayd_device_failures_total", unit=0, file="disk", call="write"), 1)
+        array.quit()
+
+
+@case
+def registration_that_was_not_saved(folder):
+    """A save fails as the file has no name, and is told until one is GOOD."""
+    with window(folder) as array:
+        session = host()
+        name = f"{folder}/disk0.reg"
+        os.rename(name, name + ".away")
+        is_so("a save", end_of(session.reserve_out(0, 0, new_key=5, aptpl=True)), "04 44/00")
+        wrong(0, "registrations_not_saved")
+        os.rename(name + ".away", name)
+        is_so("not yet", get("/health")[0], 503)
+        is_so("another", end_of(session.reserve_out(0, 0, new_key=5, aptpl=True)), GOOD)
+        over(0, "registrations", "open", "ENOENT")
+        array.quit()
+
+
+@case
+def failure_that_is_acknowledged(folder):
+    """A read that failed is over when an administrator says so; a flush that was lost is not."""
+    failing, control = Failing(folder), f"{folder}/control"
+    disks = [made(f"{folder}/disk{unit}", 4096) for unit in range(2)]
+    with Array(disks, more={"ARRAYD_HTTP": f"127.0.0.1:{AT}", "ARRAYD_CONTROL": control, **failing.environment}) as array:
+        session = host()
+        failing.let("pread", errno.EIO, times=4)
+        is_so("the read", end_of(session.command(0, [0x28, 0, 0, 0, 0, 9, 0, 0, 1, 0], expected=512)), "03 11/00")
+        wrong(0, "calls_failed")
+        failing.stop()
+        is_so("seen", said_by(control, "acknowledge"), b"acknowledged\n")
+        over(0, "disk", "read", "EIO")
+        session.write(1, 0, bytes(512))
+        failing.let("fdatasync", errno.EIO)
+        is_so("the flush", end_of(session.command(1, [0x35] + [0] * 9)), "03 0C/00")
+        wrong(1, "flushes_lost")
+        said_by(control, "acknowledge")
+        wrong(1, "flushes_lost")
+        array.quit()
+
+
+def said_by(control, line):
+    """What the control socket answers to a line."""
+    with socket.socket(socket.AF_UNIX) as peer:
+        peer.settimeout(10)
+        peer.connect(control)
+        peer.sendall(line.encode() + b"\n")
+        peer.shutdown(socket.SHUT_WR)
+        answer = b""
+        while part := peer.recv(4096):
+            answer += part
+    return answer
+
+
+@case
+def commands_that_wait_for_each_other(folder):
+    """Sixteen READs that came together, of a second each: none of them hangs."""
+    failing = Failing(folder)
+    with Array([made(f"{folder}/disk", 4096)], more={"ARRAYD_HTTP": f"127.0.0.1:{AT}", **failing.environment}) as array:
+        session = host()
+        failing.slow("pread", 1.0)
+        tags = [session.submit(0, [0x28, 0, 0, 0, 0, at, 0, 0, 1, 0], expected=512) for at in range(16)]
+        longest = 0.0
+        for _ in range(30):
+            time.sleep(0.5)
+            longest = max(longest, value(metrics(), "arrayd_unit_oldest_command_seconds", unit=0))
+        is_so("as long as one", 0.5 < longest < 3, True)
+        failing.slow("pread", 0)
+        for tag in tags:
+            session.wait(tag)
         array.quit()
 
 
@@ -356,14 +472,23 @@ def answers(folder):
         is_so("page", (get("/")[0], get("/")[1]["content-type"]), (200, "text/html; charset=utf-8"))
         is_so("another", get("/no")[0], 404)
         is_so("with words", get("/health?x=1")[0], 200)
-        for method in ("POST", "HEAD", "PUT", "DELETE", "OPTIONS"):
-            code, fields, _ = asked(f"{method} /status HTTP/1.1\r\nHost: here\r\n\r\n".encode())
-            is_so(method, (code, fields["allow"]), (405, "get"))
-        is_so("a body", asked(b"GET / HTTP/1.1\r\nHost: h\r\nContent-Length: 5\r\n\r\nhello")[0], 413)
-        is_so("long field", asked(b"GET / HTTP/1.1\r\nHost: h\r\nA: " + b"x" * 8200 + b"\r\n\r\n")[0], 431)
+        for method in ("POST", "PUT", "DELETE", "OPTIONS"):
+            code, fields, _ = asked(f"{method} /status HTTP/1.1\r\nHost: localhost\r\n\r\n".encode())
+            is_so(method, (code, fields["allow"]), (405, "get, head"))
+        for path in ("/", "/health", "/no"):
+            code, fields, body = asked(f"HEAD {path} HTTP/1.1\r\nHost: localhost\r\n\r\n".encode())
+            full = get(path)
+            is_so("HEAD", (code, fields["content-length"], body), (full[0], full[1]["content-length"], b""))
+        for name in (f"127.0.0.1:{AT}", "10.1.2.3", "localhost", f"localhost:{AT}"):
+            is_so(name, get("/health", name)[0], 200)
+        for name in ("evil.example", f"evil.example:{AT}", "localhost.evil.example", "127.0.0.1.evil.example", "1.2.3", "here"):
+            is_so(name, get("/status", name)[::2], (421, b"ask by an address, or as localhost\n"))
+        is_so("no Host", asked(b"GET /health HTTP/1.0\r\n\r\n")[0], 200)
+        is_so("a body", asked(b"GET / HTTP/1.1\r\nHost: localhost\r\nContent-Length: 5\r\n\r\nhello")[0], 413)
+        is_so("long field", asked(b"GET / HTTP/1.1\r\nHost: localhost\r\nA: " + b"x" * 8200 + b"\r\n\r\n")[0], 431)
         is_so("long line", asked(b"GET /" + b"x" * 9000 + b" HTTP/1.1\r\n\r\n")[0], 414)
         is_so("no HTTP", asked(b"\x00\x01\x02\r\n\r\n")[0], 400)
-        is_so("one answer", asked(b"GET /health HTTP/1.1\r\nHost: h\r\n\r\n" * 3)[2], b"ok\n")
+        is_so("one answer", asked(b"GET /health HTTP/1.1\r\nHost: localhost\r\n\r\n" * 3)[2], b"ok\n")
         array.quit()
 
 
@@ -394,6 +519,38 @@ def half_a_request(folder):
 
 
 @case
+def connections_that_say_nothing(folder):
+    """Sixteen of them, which come again for ever, shut nobody out: the oldest goes first."""
+    with window(folder) as array:
+        for _ in range(3):
+            peers = [socket.create_connection(("127.0.0.1", AT), timeout=10) for _ in range(16)]
+            began = time.monotonic()
+            is_so("answered", get("/health")[0], 200)
+            is_so("at once", time.monotonic() - began < 2, True)
+            peers[0].settimeout(5)
+            is_so("the oldest went", peers[0].recv(1), b"")
+            peers[15].sendall(b"GET /health HTTP/1.1\r\nHost: localhost\r\n\r\n")
+            is_so("the last is served", peers[15].recv(4096).startswith(b"HTTP/1.1 200"), True)
+            for peer in peers:
+                peer.close()
+        array.quit()
+
+
+@case
+def names_of_a_unit(folder):
+    """What the window says a unit is known by is what INQUIRY says."""
+    with window(folder, 2, options=["--array", "305419896"]) as array:
+        session = host()
+        for unit in status()["units"]:
+            number = unit["unit"]
+            page = session.inquiry(number, 0x83)
+            is_so("NAA", unit["naa"], page[8:16].hex())
+            is_so("WWID", unit["wwid"], "3" + page[8:16].hex())
+            is_so("serial number", unit["serial"], session.inquiry(number, 0x80)[4:].decode())
+        array.quit()
+
+
+@case
 def many_connections(folder):
     with window(folder) as array:
         sessions_, stop, done = [host(1), host(2, isid=0x400001370001)], threading.Event(), [0, 0]
@@ -411,7 +568,10 @@ def many_connections(folder):
         for _ in range(1000):
             peers.append(socket.create_connection(("127.0.0.1", AT), timeout=10))
         slow = peers[0]
-        slow.sendall(b"GET / HTTP/1.1\r\nHost: h\r\n\r\n")
+        try:
+            slow.sendall(b"GET / HTTP/1.1\r\nHost: localhost\r\n\r\n")
+        except OSError:
+            pass
         time.sleep(2)
         busy = (sum(done) - before) / 2
         for peer in peers:
@@ -502,7 +662,7 @@ def words(folder):
     is_so("version", ran(["--version"]), (0, "arrayd 1.0.0\n", ""))
     status_, told, errors = ran(["--help"])
     is_so("help", (status_, "usage: arrayd" in told, errors), (0, True, ""))
-    is_so("wrong", ran(["--no"]), (2, "", "arrayd: wrong words\n"))
+    is_so("wrong", ended(["--no"]), (2, "arrayd: wrong words"))
     is_so("two", ended(["--version", "--help"]), (2, "arrayd: wrong words"))
 
 
@@ -540,6 +700,25 @@ def promtool(folder):
 
 
 @case
+def alerts(folder):
+    """The rules for Prometheus, their tests, the metrics that they ask for, and their entries in the page of trouble."""
+    if not shutil.which("promtool"):
+        raise NotHere("it wants promtool")
+    for words_ in (("check", "rules", "arrayd-alerts.yml"), ("test", "rules", "arrayd-alerts-test.yml")):
+        done = subprocess.run(["promtool", *words_], cwd=f"{TOP}/service", capture_output=True, text=True, check=False)
+        is_so(" ".join(words_[:2]), (done.returncode, done.stdout + done.stderr) if done.returncode else 0, 0)
+    with open(f"{TOP}/service/arrayd-alerts.yml", encoding="utf-8") as file:
+        rules = file.read()
+    with open(f"{TOP}/docs/TROUBLE.md", encoding="utf-8") as file:
+        page = " ".join(file.read().split())
+    for entry in re.findall("trouble: '(.*)'", rules):
+        is_so(entry, f"**{entry}" in page or f"## {entry}" in page, True)
+    with window(folder) as array:
+        is_so("not there", sorted(set(re.findall("arrayd_[a-z_]+", rules)) - {name for name, _ in metrics()}), [])
+        array.quit()
+
+
+@case
 def prometheus(folder):
     if not shutil.which("prometheus"):
         raise NotHere("it wants prometheus")
@@ -552,11 +731,13 @@ def prometheus(folder):
         server = subprocess.Popen(["prometheus", f"--config.file={folder}/prometheus.yml", f"--storage.tsdb.path={folder}/data",
                                    f"--web.listen-address=127.0.0.1:{port}"], stdout=said, stderr=said)
         try:
+            query = f"http://127.0.0.1:{port}/api/v1/query?query="
+            said_to = lambda words: subprocess.run(["curl", "-s", query + words], capture_output=True, check=False).stdout
+            got = lambda words: json.loads(said_to(words))
+            until(lambda: b'"value"' in said_to("up"), 60)
             for _ in range(30):
                 session.read(0, 0, 8)
                 time.sleep(0.2)
-            query = f"http://127.0.0.1:{port}/api/v1/query?query="
-            got = lambda words: json.loads(subprocess.run(["curl", "-s", query + words], capture_output=True, check=True).stdout)
             is_so("up", got("up")["data"]["result"][0]["value"][1], "1")
             reads = got("arrayd_commands_total%7Boperation%3D%22read%22,controller%3D%221%22%7D")["data"]["result"][0]["value"][1]
             is_so("reads", 20 <= int(reads) <= 30, True)

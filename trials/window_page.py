@@ -13,6 +13,7 @@ import json
 import math
 import os
 import shutil
+import signal
 import socket
 import struct
 import subprocess
@@ -147,8 +148,8 @@ def numbers(page, first):
     """What the tables show of what was sent."""
     page.until("document.querySelectorAll('#unit_table tbody tr').length === 2")
     is_so("commands", cells(page, "unit_table", "commands"), ["13", "3"])
-    is_so("bytes read", cells(page, "unit_table", "read"), [str(7 * 4096), "0"])
-    is_so("bytes written", cells(page, "unit_table", "written"), [str(3 * 4096), "0"])
+    is_so("bytes read", cells(page, "unit_table", "read"), ["28 KiB", "0 B"])
+    is_so("bytes written", cells(page, "unit_table", "written"), ["12 KiB", "0 B"])
     is_so("conflicts", cells(page, "unit_table", "conflicts"), ["0", "0"])
     is_so("sessions", cells(page, "session_table", "isid"), ["0x400001370000", "0x400001370001"])
     is_so("name", cells(page, "session_table", "initiator"), [NAME, "iqn.2000-01.test:other"])
@@ -177,22 +178,46 @@ def registrations(page, first, second):
 
 def is_unharmed(page):
     """No name of a host is a part of the page."""
-    is_so("title", page.value("document.title"), "arrayd")
+    is_so("title", page.value("document.title"), "\u2714 well - arrayd")
     is_so("scripts", page.value("document.scripts.length"), 1)
 
 
 def is_reached_by_keys(page):
     page.value("document.activeElement.blur()")
     reached = []
-    for _ in range(5):
+    for _ in range(6):
         page.key("Tab", 9)
         reached.append(page.value("document.activeElement.id || document.activeElement.getAttribute('aria-label')"))
-    is_so("by Tab", reached, ["pause", "Units", "Sessions", "Registrations", "Controllers"])
+    is_so("by Tab", reached, ["pause", "Units", "Calls that failed", "Sessions", "Registrations", "Controllers"])
+    nodes = page.do("Accessibility.getFullAXTree")["nodes"]
+    named = {node["name"]["value"] for node in nodes if node.get("role", {}).get("value") == "region" and "name" in node}
+    is_so("regions", {"Units", "Sessions", "Registrations", "Controllers", "Calls that failed"} <= named, True)
     page.value("document.getElementById('pause').focus()")
     page.key("Enter", 13)
     is_so("pressed", page.value("document.getElementById('pause').getAttribute('aria-pressed')"), "true")
     page.key("Enter", 13)
     is_so("and again", page.value("document.getElementById('pause').getAttribute('aria-pressed')"), "false")
+
+
+def stays_selected(page):
+    """What somebody has selected outlasts what is heard next."""
+    page.value("getSelection().selectAllChildren(document.querySelector('#session_table td'))")
+    before = page.value("heard")
+    page.until(f"heard > {before}")
+    is_so("selected", page.value("getSelection().toString()"), NAME)
+    page.value("getSelection().removeAllRanges()")
+
+
+def stands_still(page, array):
+    """An array that stands still does not answer, and the page says since when."""
+    os.kill(array.process.pid, signal.SIGSTOP)
+    try:
+        page.until("document.getElementById('well').textContent.includes('does not answer')")
+        is_so("title", page.value("document.title"), "\u2718 the array does not answer - arrayd")
+        page.until("/heard [0-9]+ s ago/.test(document.getElementById('heard').textContent)")
+    finally:
+        os.kill(array.process.pid, signal.SIGCONT)
+    page.until("document.getElementById('well').textContent.includes('well')")
 
 
 def fits(page):
@@ -241,20 +266,29 @@ def tried(folder, to, seconds):
             registrations(page, first, second)
             is_unharmed(page)
             is_reached_by_keys(page)
+            stays_selected(page)
+            stands_still(page, array)
             fits(page)
             worked([first, second], seconds)
             pictures(page, to, "healthy")
             array.ask("down 1")
             page.until("document.querySelectorAll('.wire.none').length === 2")
             is_so("owners", cells(page, "unit_table", "owner"), ["controller 2", "controller 2"])
+            is_so("degraded", page.value("document.getElementById('well').textContent"), "\u26a0 degraded")
             pictures(page, to, "down")
             # The disk of unit 1 becomes shorter: a read behind its end fails.
             os.truncate(disks[1], 512)
             second.command(1, [0] * 6)
             second.command(1, [0x28, 0, 0, 0, 0, 100, 0, 0, 1, 0], expected=512)
-            page.until("document.querySelectorAll('#problems li').length === 1")
+            page.until("document.querySelectorAll('#problems li').length === 2")
             is_so("wrong", page.value("document.getElementById('well').textContent"), "\u2718 1 wrong")
             pictures(page, to, "failed")
+            os.truncate(disks[1], 4096 * 512)
+            second.read(1, 100, 1)
+            page.until("document.getElementById('well').textContent.includes('degraded')")
+            is_so("what was", cells(page, "failure_table", "call"), ["read"])
+            is_so("is over", cells(page, "failure_table", "over") != ["no"], True)
+            pictures(page, to, "over")
             array.kill()
             page.until("document.getElementById('well').textContent.includes('does not answer')")
         finally:

@@ -7,7 +7,8 @@ use block_file::{Blocks, Opener};
 use command_line::{Fault, MAX_UNITS, Options};
 use disk_files::{
     Disk, DiskFault, DiskLock, FileBlocks, FileFault, FileLog, FileOpener, FilePreparer,
-    NamedBlocks, Registrations, RegistrationsFault, SystemFile, open_disk, open_registrations,
+    NamedBlocks, Registrations, RegistrationsFault, SystemFile, UnitFileFault, UnitName, open_as,
+    open_disk, open_registrations,
 };
 use disk_preparer::{OnDisk, Preparer};
 use event_log::{Event, Log, Part, Unusable};
@@ -115,12 +116,31 @@ fn registrations_cause(fault: RegistrationsFault) -> (Unusable, u32) {
     }
 }
 
+// Why a file cannot be used, in words.
+fn words_of(why: Unusable) -> &'static str {
+    match why {
+        Unusable::NotThere => "it is not there",
+        Unusable::NotOpened => "it cannot be opened",
+        Unusable::Length => "its length is no multiple of 512",
+        Unusable::Empty => "it is empty",
+        Unusable::TooLong => "it is too long",
+        Unusable::InUse => "another server has it, or another unit",
+        Unusable::NotLocked => "it cannot be locked",
+        Unusable::NotMade => "it cannot be made",
+        Unusable::NotARegistrationFile => "it is no registration file",
+        Unusable::Version => "it is of another version",
+        Unusable::Failed => "a call on it failed",
+        Unusable::Forgotten => "a reboot would forget it",
+        Unusable::NoMemory => "no memory",
+    }
+}
+
 // That a file of a unit cannot be used, or that there was no memory.
-pub(crate) fn fault_of(unit: u8, part: Part, why: Unusable) -> Fault {
+pub(crate) fn fault_of(unit: u8, part: Part, why: Unusable, error: u32) -> Fault {
     match (why, part) {
         (Unusable::NoMemory, _) => Fault::NoMemory,
-        (_, Part::Disk) => Fault::CannotUseUnit(unit),
-        (_, Part::Registrations) => Fault::CannotUseRegistrationFile(unit),
+        (_, Part::Disk) => Fault::CannotUseUnit(unit, words_of(why), error),
+        (_, Part::Registrations) => { Fault::CannotUseRegistrationFile(unit, words_of(why), error) }
     }
 }
 
@@ -128,7 +148,7 @@ pub(crate) fn fault_of(unit: u8, part: Part, why: Unusable) -> Fault {
 fn refuse(log: &Log, unit: u8, part: Part, path: &str, cause: (Unusable, u32)) -> Fault {
     let (why, error) = cause;
     log.note(&Event::CannotUse(unit, part, path.as_bytes(), why, error));
-    fault_of(unit, part, why)
+    fault_of(unit, part, why, error)
 }
 
 // What tells of calls that fail on a file of a unit.
@@ -174,18 +194,52 @@ pub(crate) fn open_preparer<R: Files<File = File> + Clock + Wait + Clone + Drop>
     Ok(FilePreparer::open(mine, alloc, path, blocks, Some(file_log)))
 }
 
-// The registration file of a unit, and its record.
+// Sees to it that the disk of a unit stays the one that it is.
+fn keep_its_unit<R: Files<File = File>>(
+    rt: &R,
+    alloc: Global,
+    log: &Log,
+    place: Place,
+    path: &str,
+) -> Result<(), Fault> {
+    let (unit, array) = (place.unit, place.array);
+    match open_as(rt, alloc, path, UnitName { unit, array }) {
+        Ok(()) => Ok(()),
+        Err(UnitFileFault::NoMemory) => Err(Fault::NoMemory),
+        Err(UnitFileFault::Other(known)) => {
+            let fault = Fault::OtherUnit(unit, array, known.unit, known.array);
+            let text = format!(in alloc; "{fault}: {path}")?;
+            log.note(&Event::WrongWords(text.as_bytes()));
+            Err(fault)
+        }
+        Err(UnitFileFault::NamesNone) => Err(unnamed(log, unit, path, 0)),
+        Err(UnitFileFault::NotRead(error)) => Err(unnamed(log, unit, path, error)),
+    }
+}
+
+// Tells the log of a disk beside which nothing can say as which unit it is served.
+fn unnamed(log: &Log, unit: u8, path: &str, error: u32) -> Fault {
+    let cannot = Event::CannotUse(unit, Part::Disk, path.as_bytes(), Unusable::NotMade, error);
+    log.note(&cannot);
+    Fault::CannotUseUnit(unit, "the file .unit beside it cannot be used", error)
+}
+
+// The registration file of a unit, and its record. Its disk is this unit from then on.
 pub(crate) fn open_record<R: Files<File = File> + Clone + Drop>(
     rt: &R,
     alloc: Global,
     log: &Log,
-    unit: u8,
+    place: Place,
     path: &str,
 ) -> Result<Registrations<R>, Fault> {
+    let unit = place.unit;
     let file_log = file_log(log, unit, Part::Registrations)?;
     let mine = rt.clone()?;
     match open_registrations(mine, alloc, path, Some(file_log)) {
-        Ok(found) => Ok(found),
+        Ok(found) => {
+            keep_its_unit(rt, alloc, log, place, path)?;
+            Ok(found)
+        }
         Err(fault) => {
             let cause = registrations_cause(fault);
             Err(refuse(log, unit, Part::Registrations, path, cause))
@@ -219,7 +273,7 @@ fn open_unit<R: Files<File = File> + Clock + Wait + Clone + Drop>(
 {
     let mut disk = open_blocks(rt, alloc, log, place.unit, path)?;
     let preparer = open_preparer(rt, alloc, log, place.unit, path, &mut disk.blocks)?;
-    let found = open_record(rt, alloc, log, place.unit, path)?;
+    let found = open_record(rt, alloc, log, place, path)?;
     laws::nobody_is_attached_at_first();
     let unit = Unit::open(
         alloc,

@@ -70,7 +70,7 @@ pub fn open<R: Net<Listener = TcpListener, Stream = TcpStream> + Clock>(
                 Err(e) => {
                     let error = u32::try_from(e.raw_os_error().unwrap_or(0)).unwrap_or(0);
                     log.tell(rt, &Event::CannotListen(u16::from(controller), at, error));
-                    return Err(Fault::CannotListen(controller, portal));
+                    return Err(Fault::CannotListen(controller, portal, at, error));
                 }
             };
             log.tell(rt, &Event::Listening(u16::from(controller), at));

@@ -6,13 +6,12 @@ ghost use Rattle.portal.specs.Lanes.{AreLanesOf};
 ghost use Rattle.scsi_types.specs.declared.names.Group.TheVariants.{One, Two};
 ghost use Rattle.unit_history.specs.Naming.{IsNamed};
 
-use crate::administered::AdministeredServer;
 use crate::disks::OpenArray;
-use crate::operated::Operated;
 use crate::portals::{self, Portal, Ports};
 use array_administration::{
     Administration, Operations, Sockets, answer, console, control_path, open,
 };
+use array_operations::{AdministeredServer, Operated};
 use array_units::Units;
 use block_file::{Blocks, Opener};
 use command_line::{Fault, MAX_UNITS, Options};
@@ -20,13 +19,14 @@ use disk_preparer::{OnDisk, Preparer};
 use event_log::{Event, Log, Resource};
 use portal::{
     Controllers, Disks, Gate, Lane, Prepared, Server, SmallStacks, TargetDevice, listen,
-    start_lanes,
+    start_flushers, start_lanes,
 };
 use scsi_types::Group;
 use std::alloc::Global;
 use std::fs::File;
 use std::io::{BufRead, Write};
 use std::marker::Brand;
+use std::mem;
 use std::net::{Net, SocketAddrV4, TcpListener, TcpStream};
 use std::random::RandomSource;
 use std::rt::Files;
@@ -159,6 +159,8 @@ impl<
         let mut stacks = SmallStacks;
         let first = start_lanes(rt, alloc, &self.server, Group::One, &mut stacks)?;
         let second = start_lanes(rt, alloc, &self.server, Group::Two, &mut stacks)?;
+        let units = self.server.device.units.units().count();
+        start_flushers(rt, &self.server, units, &mut stacks)?;
         let server = Arc::try_clone(&self.server)?;
         let Ok(administered) = Arc::new(alloc, AdministeredServer { server }) else {
             return Err(Fault::NoMemory);
@@ -192,24 +194,25 @@ impl<
             controllers: &server.device.units,
             log: &server.log,
         };
-        attend(alloc, reader, writer, &mut operated);
-        Ok(())
+        let ended = attend(alloc, reader, writer, &mut operated);
+        server.device.gate.close();
+        ended
     }
 }
 
-// Says that all portals listen, and obeys the console until it ends. An output that fails counts as the end of the input.
+// Says that all portals listen, and obeys the console until it ends: how the flush of the units ended then. An output that fails
+// counts as the end of the input.
 fn attend<A: Operations, I: BufRead + Drop, C: Write>(
     alloc: Global,
     reader: I,
     writer: &mut C,
     array: &mut A,
-) {
+) -> Result<(), Fault> {
     if writer.write_all(b"arrayd: ready\n").is_err() {
         array.close();
-        array.flush();
-        return;
+        return array.flush().map_err(Fault::NotFlushed);
     }
-    console(alloc, reader, writer, array);
+    console(alloc, reader, writer, array)
 }
 
 /// Tells the log of an array that ends for want of memory, or of a thread.
@@ -278,8 +281,8 @@ fn serve_named<
         Err(fault) => Err(fault),
     };
     event_log::close(rt, log);
-    // They live as long as the array is served.
-    drop(locks);
+    // They live as long as the process: a call of the system that hangs may still reach a file.
+    mem::forget(locks);
     ended
 }
 

@@ -1,5 +1,6 @@
 //! The units of the array, over files whose calls have a deadline.
 ghost use Rattle.std.specs.Prelude.{◌≡◌, ◌<◌, ◌≤◌, IfOk, length, map};
+ghost use Rattle.std.specs.Arc.{arc_value};
 ghost use Rattle.unit_state.specs.Serials.{IsOpening};
 
 use crate::disks::{OpenArray, fault_of, open_blocks, open_preparer, open_record, place_of};
@@ -73,7 +74,7 @@ fn open_parts<R: Files<File = File> + Clock + Wait + Clone + Drop>(
 ) -> Result<FileParts<R>, Fault> {
     let mut disk = open_blocks(rt, alloc, log, place.unit, path)?;
     let preparer = open_preparer(rt, alloc, log, place.unit, path, &mut disk.blocks)?;
-    let found = open_record(rt, alloc, log, place.unit, path)?;
+    let found = open_record(rt, alloc, log, place, path)?;
     let file = found.file.close();
     Ok(Parts {
         place,
@@ -111,8 +112,11 @@ fn watch(
     unit: u8,
     part: Part,
     patience: Duration,
-) -> Result<Arc<Watch, Global>, Fault> {
-    Ok(Arc::new(alloc, Watch::new(patience, log.share()?, unit, part))?)
+    node: Node,
+) -> Result<Arc<Watch, Global>, Fault>
+    ensures { IfOk result (λ watch. (arc_value watch).node ≡ node) }
+{
+    Ok(Arc::new(alloc, Watch::new(patience, log.share()?, unit, part, node))?)
 }
 
 // A registration file by a thread of its own, and its record.
@@ -129,13 +133,14 @@ fn start_record<
 ) -> Result<(RegFile<Deadlined<R, F, KeepOpener>>, Record), Fault>
     requires some { 0 < F.size file }
     requires disk { node ≡ F.OnDisk.disk file }
+    requires watched { (arc_value watch.now).node ≡ node }
 {
     let Ok(timed) = Deadlined::start(rt, alloc, file, KeepOpener, node, watch) else {
         return Err(Fault::NoMemory);
     };
     match RegFile::open(alloc, timed) {
         Ok(found) => Ok(found),
-        Err(_) => Err(fault_of(unit, Part::Registrations, Unusable::Failed)),
+        Err(_) => Err(fault_of(unit, Part::Registrations, Unusable::Failed, 0)),
     }
 }
 
@@ -163,8 +168,9 @@ impl<
         ensures opening { IfOk result (λ r. IsOpening r.0.control) }
         ensures disk { IfOk result (λ r. r.0.device.node ≡ r.1.node) }
     {
-        let of_disk = watch(alloc, log, self.place.unit, Part::Disk, patience)?;
-        let of_file = watch(alloc, log, self.place.unit, Part::Registrations, patience)?;
+        let of_disk = watch(alloc, log, self.place.unit, Part::Disk, patience, self.disk)?;
+        let part = Part::Registrations;
+        let of_file = watch(alloc, log, self.place.unit, part, patience, self.filed)?;
         let Parts {
             place,
             disk,

@@ -35,4 +35,7 @@ pub trait Administered {
 
     /// Ends the connection of the session with this TSIH, where one lives: whether one does.
     fn shut<R: Wait>(&self, rt: &R, tsih: u16) -> bool;
+
+    /// Whether a session with this TSIH lives. Once it does not, no command of it reaches a unit any more.
+    fn lives<R: Wait>(&self, rt: &R, tsih: u16) -> bool;
 }

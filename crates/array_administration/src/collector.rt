@@ -2,7 +2,7 @@
 
 use crate::administered::Administered;
 use command_line::Options;
-use event_log::{BOUNDS, Seen};
+use event_log::{BOUNDS, Seen, SessionType, UnitHappenings};
 use scsi_types::Group;
 use status::Row;
 use std::alloc::{AllocError, Global};
@@ -10,7 +10,8 @@ use std::net::SocketAddrV4;
 use std::sync::{Arc, Wait};
 use std::time::{Clock, Duration};
 use window::{
-    ArrayView, Collector, Controller, PathView, Registration, SessionView, Signs, UnitView,
+    ArrayView, Collector, Controller, PathView, Registration, Seen as Shown, SessionView, Signs,
+    UnitView,
 };
 
 /// What does not change while the array is served, as it is shown.
@@ -20,6 +21,8 @@ struct Fixed {
     target: String,
     array: u64,
     disks: Vec<String>,
+    // When the clock that never goes back began, in microseconds after the beginning of 1970.
+    origin: u64,
 }
 
 /// What collects the state of the array while it is served.
@@ -49,16 +52,18 @@ fn fixed_by(
     alloc: Global,
     options: &Options<'_>,
     version: &'static str,
+    origin: u64,
 ) -> Result<Fixed, AllocError> {
     let mut disks = Vec::new(alloc);
     for path in &options.paths {
-        disks.push(window::spelled(alloc, path.as_bytes())?)?;
+        disks.push(window::named(alloc, path.as_bytes())?)?;
     }
     Ok(Fixed {
         version,
-        target: window::spelled(alloc, options.target.as_bytes())?,
+        target: window::named(alloc, options.target.as_bytes())?,
         array: u64::from(options.array),
         disks,
+        origin,
     })
 }
 
@@ -88,19 +93,37 @@ fn paths_of(
     Ok(paths)
 }
 
-// A unit as it is shown.
+// By what hosts know a unit: the designator of type NAA and the serial number, as `identity` spells them, and what dm-multipath makes of
+// the first one.
+fn names_of(
+    alloc: Global,
+    array: u64,
+    place: usize,
+) -> Result<(String, String, String), AllocError> {
+    let naa = format!(in alloc; "3000{array:08x}00{place:02x}")?;
+    let serial = format!(in alloc; "{array:08x}{place:02}")?;
+    let wwid = format!(in alloc; "3{naa}")?;
+    Ok((naa, serial, wwid))
+}
+
+// A unit as it is shown, of which something was counted.
 fn unit_of(
     alloc: Global,
     place: usize,
     row: Row,
     registrations: Option<Vec<Registration>>,
-    disks: &[String],
+    fixed: &Fixed,
     seen: &Seen,
+    happened: &UnitHappenings,
 ) -> Result<UnitView, AllocError> {
-    let (disk, registration_file) = files_of(alloc, disks, place)?;
+    let (disk, registration_file) = files_of(alloc, &fixed.disks, place)?;
+    let (naa, serial, wwid) = names_of(alloc, fixed.array, place)?;
     let paths = paths_of(alloc, place, row, seen)?;
     let oldest = seen.oldest.get(place).copied().unwrap_or(0);
-    let signs = Signs::of(&seen.happened, place, oldest);
+    let signs = Signs {
+        oldest,
+        seen: Some(happened),
+    };
     Ok(UnitView {
         unit: place as u64,
         owner: row.owner,
@@ -109,16 +132,47 @@ fn unit_of(
         registrations,
         reservation_type: row.kind,
         entries: row.entries,
+        naa,
+        serial,
+        wwid,
         disk,
         registration_file,
-        blocks: seen.happened.blocks.get(place).copied().unwrap_or(0),
+        blocks: happened.blocks,
         health: window::health_words(&signs),
         troubles: window::trouble_tallies(alloc, &signs)?,
-        disk_failures: window::failures(alloc, &signs.disk)?,
-        registration_failures: window::failures(alloc, &signs.registrations)?,
+        failures: window::failure_views(alloc, fixed.origin, happened)?,
+        disk_failures: window::failures(alloc, &happened.disk)?,
+        registration_failures: window::failures(alloc, &happened.registrations)?,
+        hung: happened.hung.count,
         oldest_command_micros: oldest,
         paths,
     })
+}
+
+// Whether no unit is served by a controller.
+fn is_down(units: &[UnitView], controller: u64) -> bool {
+    for unit in units {
+        for path in &unit.paths {
+            if path.controller == controller && path.is_served() {
+                return false;
+            }
+        }
+    }
+    true
+}
+
+// How many sessions came by a controller, and how many of these are for discovery.
+fn count_sessions(seen: &Seen, tag: u64) -> (u64, u64) {
+    let (mut sessions, mut discoveries) = (0u64, 0u64);
+    for session in &seen.sessions {
+        if u64::from(session.who.path.tag) == tag {
+            sessions = sessions.saturating_add(1);
+            if let SessionType::Discovery = session.who.kind {
+                discoveries = discoveries.saturating_add(1);
+            }
+        }
+    }
+    (sessions, discoveries)
 }
 
 // A controller with its portals, and how many of these sessions came by it.
@@ -126,6 +180,7 @@ fn controller_of(
     alloc: Global,
     group: Group,
     portals: &[SocketAddrV4],
+    units: &[UnitView],
     seen: &Seen,
 ) -> Result<Controller, AllocError> {
     let tag = u64::from(group.number());
@@ -133,16 +188,13 @@ fn controller_of(
     for portal in portals {
         addresses.push(format!(in alloc; "{portal}")?)?;
     }
-    let mut sessions = 0u64;
-    for session in &seen.sessions {
-        if u64::from(session.who.path.tag) == tag {
-            sessions = sessions.saturating_add(1);
-        }
-    }
+    let (sessions, discoveries) = count_sessions(seen, tag);
     Ok(Controller {
         controller: tag,
+        is_down: is_down(units, tag),
         portals: addresses,
         sessions,
+        discoveries,
     })
 }
 
@@ -150,12 +202,13 @@ fn controller_of(
 fn controllers_of<A: Administered>(
     alloc: Global,
     array: &A,
+    units: &[UnitView],
     seen: &Seen,
 ) -> Result<Vec<Controller>, AllocError> {
     let mut controllers = Vec::new(alloc);
     for group in &[Group::One, Group::Two] {
         let group = *group;
-        controllers.push(controller_of(alloc, group, array.portals(group), seen)?)?;
+        controllers.push(controller_of(alloc, group, array.portals(group), units, seen)?)?;
     }
     Ok(controllers)
 }
@@ -169,21 +222,26 @@ fn sessions_of(alloc: Global, seen: &Seen) -> Result<Vec<SessionView>, AllocErro
     Ok(sessions)
 }
 
-// The units: their rows, their registrations, which may be missing, and what is counted of them.
+// The units: their rows, their registrations where they are shown, which may be missing, and what is counted of them.
 fn units_of<R: Wait, A: Administered>(
     rt: &R,
     alloc: Global,
     array: &A,
-    disks: &[String],
+    fixed: &Fixed,
     seen: &Seen,
+    shown: Shown,
 ) -> Result<Vec<UnitView>, AllocError> {
     let mut found = Vec::new(alloc);
-    for place in 0..array.count() {
+    for (place, happened) in seen.happened.units.iter().enumerate() {
         let Some(row) = array.row(rt, place) else {
             break;
         };
-        let registrations = array.registrations(alloc, place);
-        found.push(unit_of(alloc, place, row, registrations, disks, seen)?)?;
+        // Nobody's lock is taken for what is not shown.
+        let registrations = match shown {
+            Shown::Status => array.registrations(alloc, place),
+            Shown::Metrics | Shown::Health => None,
+        };
+        found.push(unit_of(alloc, place, row, registrations, fixed, seen, happened)?)?;
     }
     Ok(found)
 }
@@ -207,7 +265,12 @@ impl<R: Wait + Clock + Drop, A: Administered + Drop> ArrayCollector<R, A> {
         Ok(ArrayCollector {
             rt,
             array,
-            fixed: fixed_by(alloc, options, version)?,
+            fixed: fixed_by(
+                alloc,
+                options,
+                version,
+                micros(began_1970.saturating_sub(began)),
+            )?,
             began_1970,
             began,
         })
@@ -223,12 +286,13 @@ impl<R: Wait + Clock + Drop, A: Administered + Drop> ArrayCollector<R, A> {
 }
 
 impl<R: Wait + Clock + Drop, A: Administered + Drop> Collector for ArrayCollector<R, A> {
-    fn collect(&self, alloc: Global) -> Result<ArrayView, AllocError> {
+    fn collect(&self, alloc: Global, shown: Shown) -> Result<ArrayView, AllocError> {
         let now = self.rt.monotonic().unwrap_or(self.began);
         let seen = self.seen(alloc, now)?;
         let array: &A = &self.array;
-        let units = units_of(&self.rt, alloc, array, &self.fixed.disks, &seen)?;
-        let controllers = controllers_of(alloc, array, &seen)?;
+        let units = units_of(&self.rt, alloc, array, &self.fixed, &seen, shown)?;
+        let controllers = controllers_of(alloc, array, &units, &seen)?;
+        let degraded = window::degraded(alloc, &units, &controllers)?;
         let problems = window::problems(alloc, &units, array.log().is_failing())?;
         Ok(ArrayView {
             version: self.fixed.version,
@@ -243,6 +307,7 @@ impl<R: Wait + Clock + Drop, A: Administered + Drop> Collector for ArrayCollecto
             refused_logins: window::refusals(alloc, &seen.happened.refused)?,
             bounds_micros: Vec::from_slice(alloc, &BOUNDS)?,
             problems,
+            degraded,
         })
     }
 }

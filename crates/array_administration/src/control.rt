@@ -9,7 +9,7 @@ use std::alloc::{AllocError, Global};
 use std::fs::{self, File, Permissions};
 use std::io::{self, BufRead, BufReader, ErrorKind, Read, Write};
 use std::net::Net;
-use std::os::unix::fs::PermissionsExt;
+use std::os::unix::fs::{FileTypeExt, PermissionsExt};
 use std::os::unix::net::{UnixListener, UnixStream};
 use std::rt::Files;
 use std::sync::{Arc, Wait};
@@ -29,16 +29,22 @@ const MOST: u64 = 65536;
 /// So many milliseconds the accept loop rests where no connection could be accepted.
 const REST: u64 = 100;
 
+/// So many milliseconds lie between two looks whether a session is over that was ended, and so often is looked.
+const LOOK: u64 = 5;
+
+const LOOKS: u32 = 1000;
+
 /// What the stack of its thread takes.
 const STACK: usize = 256 * 1024;
 
-/// How often is looked whether somebody connected before the socket was its owner's alone.
-const STRANGERS: usize = 4096;
+/// More connections than wait at any socket, which is the most that is looked for before the socket was its owner's alone.
+const STRANGERS: u32 = 1 << 24;
 
 const HELP: &str = "status      a line for each unit
+acknowledge ends what failed, but for flushes, as seen
 sessions    a line for each session that is logged in
 keys U      a line for each registration of a unit
-end TSIH    closes the connection of a session
+end TSIH    ends a session
 up 1, up 2  gives a controller the units back that prefer it
 version     the version of the program
 help        these lines
@@ -77,7 +83,7 @@ fn say_session<W: Write>(writer: &mut W, session: &SessionView) -> io::Result<()
     let (since, commands) = (session.since, session.commands);
     let last = session.last_command.unwrap_or("none");
     write!(writer, "since {since} commands {commands} last {last} ")?;
-    let initiator = session.initiator.as_str();
+    let initiator = session.spelled.as_str();
     writeln!(writer, "initiator \"{initiator}\"")
 }
 
@@ -89,17 +95,8 @@ fn say_key<W: Write>(writer: &mut W, registration: &Registration) -> io::Result<
         writer,
         "key {key} controller {controller} isid {isid} holds {kind} "
     )?;
-    let initiator = registration.initiator.as_str();
+    let initiator = registration.spelled.as_str();
     writeln!(writer, "initiator \"{initiator}\"")
-}
-
-// Writes what became of a session that was to end.
-fn say_end<W: Write>(writer: &mut W, is_ended: bool) -> io::Result<()> {
-    if is_ended {
-        writeln!(writer, "ended")
-    } else {
-        writeln!(writer, "no session")
-    }
 }
 
 impl<R: Wait + Clock + Drop, A: Administered + Drop> ControlSocket<R, A> {
@@ -122,9 +119,39 @@ impl<R: Wait + Clock + Drop, A: Administered + Drop> ControlSocket<R, A> {
         Ok(())
     }
 
+    // What has failed was seen by an administrator.
+    fn acknowledge<W: Write>(&self, writer: &mut W) -> io::Result<()> {
+        if let Some(meters) = self.array.log().meters() {
+            meters.acknowledge();
+        }
+        writer.write_all(b"acknowledged\n")
+    }
+
     fn say_version<W: Write>(&self, writer: &mut W) -> io::Result<()> {
         let version = self.version;
         writeln!(writer, "arrayd {version}")
+    }
+
+    // Whether a session is over, for which it waits for a while: from then on no command of it reaches a unit.
+    fn is_over(&self, tsih: u16) -> bool {
+        for _ in 0..LOOKS {
+            if !self.array.lives(&self.rt, tsih) {
+                return true;
+            }
+            thread::sleep(&self.rt, Duration::from_millis(LOOK));
+        }
+        false
+    }
+
+    // Ends a session, and writes what became of it.
+    fn say_end<W: Write>(&self, writer: &mut W, tsih: u16) -> io::Result<()> {
+        if !self.array.shut(&self.rt, tsih) {
+            writeln!(writer, "no session")
+        } else if self.is_over(tsih) {
+            writeln!(writer, "ended")
+        } else {
+            writeln!(writer, "ending")
+        }
     }
 
     fn say_up<W: Write>(&self, writer: &mut W, controller: Group) -> io::Result<()> {
@@ -159,8 +186,7 @@ impl<R: Wait + Clock + Drop, A: Administered + Drop> ControlSocket<R, A> {
         if let Some(number) = text.strip_prefix("end ")
             && let Ok(tsih) = number.parse::<u16>()
         {
-            let is_ended = self.array.shut(&self.rt, tsih);
-            return say_end(writer, is_ended);
+            return self.say_end(writer, tsih);
         }
         writeln!(writer, "?")
     }
@@ -171,6 +197,7 @@ impl<R: Wait + Clock + Drop, A: Administered + Drop> ControlSocket<R, A> {
             Some("status") => self.array.say_status(&self.rt, writer),
             Some("up 1") => self.say_up(writer, Group::One),
             Some("up 2") => self.say_up(writer, Group::Two),
+            Some("acknowledge") => self.acknowledge(writer),
             Some("sessions") => self.say_sessions(alloc, writer),
             Some("version") => self.say_version(writer),
             Some("help") => writer.write_all(HELP.as_bytes()),
@@ -206,17 +233,17 @@ impl<R: Wait + Clock + Drop, A: Administered + Drop> ControlSocket<R, A> {
     }
 }
 
-// Closes the connections that came before the socket was its owner's alone.
+// Closes the connections that came before the socket was its owner's alone: all of them, since no other one comes.
 fn turn_strangers_away(listener: &UnixListener) -> io::Result<()> {
     listener.set_nonblocking(true)?;
     for _ in 0..STRANGERS {
         match listener.accept() {
             Ok(_) => {}
-            Err(e) if e.kind() == ErrorKind::WouldBlock => break,
+            Err(e) if e.kind() == ErrorKind::WouldBlock => return listener.set_nonblocking(false),
             Err(e) => return Err(e),
         }
     }
-    listener.set_nonblocking(false)
+    Err(io::Error::from(ErrorKind::TimedOut))
 }
 
 // What made no control socket, as the log is told it: a path that none can have is a wrong word.
@@ -227,12 +254,37 @@ fn fault_of<R: Clock>(rt: &R, log: &Log, path: &str, error: &io::Error) -> Fault
     }
     let error = u32::try_from(error.raw_os_error().unwrap_or(0)).unwrap_or(0);
     log.tell(rt, &Event::CannotControl(error));
-    Fault::CannotControl
+    Fault::CannotControl(error)
 }
 
-// The control socket at this path, where nothing is yet. Only its owner may connect.
+// Whether a socket lies at this path at which nobody listens, as an array leaves one that was killed.
+fn is_left<R: Files<File = File> + Net>(rt: &R, path: &str) -> bool {
+    let Ok(metadata) = fs::symlink_metadata(rt, path) else {
+        return false;
+    };
+    if !metadata.file_type().is_socket() {
+        return false;
+    }
+    match UnixStream::connect(rt, path) {
+        Ok(_) => false,
+        Err(e) => e.kind() == ErrorKind::ConnectionRefused,
+    }
+}
+
+// A socket that is bound to this path, where nothing is, or one at which nobody listens.
+fn bound<R: Files<File = File> + Net>(rt: &R, path: &str) -> io::Result<UnixListener> {
+    match UnixListener::bind(rt, path) {
+        Err(e) if e.kind() == ErrorKind::AddrInUse && is_left(rt, path) => {
+            fs::remove_file(rt, path)?;
+            UnixListener::bind(rt, path)
+        }
+        end => end,
+    }
+}
+
+// The control socket at this path. Only its owner may connect.
 fn made<R: Files<File = File> + Net>(rt: &R, path: &str) -> io::Result<UnixListener> {
-    let listener = UnixListener::bind(rt, path)?;
+    let listener = bound(rt, path)?;
     let is_its_own = fs::set_permissions(rt, path, Permissions::from_mode(OWNER_ALONE)).and_then(
         |()| turn_strangers_away(&listener),
     );

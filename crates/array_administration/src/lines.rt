@@ -1,5 +1,6 @@
 //! The lines by which a person, or the program that started the array, asks it something.
 
+use command_line::Fault;
 use scsi_types::Group;
 use status::Row;
 use std::alloc::Global;
@@ -36,8 +37,8 @@ pub trait Operations {
     /// From now on no command is taken in.
     fn close(&mut self);
 
-    /// Makes all that each unit holds last, as far as it can.
-    fn flush(&mut self);
+    /// Makes all that each unit holds last, as far as it can. The first unit of which it cannot is told.
+    fn flush(&mut self) -> Result<(), u8>;
 }
 
 /// Writes a line for each unit.
@@ -70,13 +71,13 @@ pub(crate) fn text_of(line: &[u8]) -> Option<&str> {
 }
 
 /// Obeys lines until `quit`, the end of the input, or a failure of either; then no command is taken in any more, and the units
-/// are flushed. A line that is none of these, or no UTF-8, is answered `?`.
+/// are flushed. Of the first that was not, a line tells, and the fault. A line that is none of these, or no UTF-8, is answered `?`.
 pub fn console<I: BufRead + Drop, W: Write, A: Operations>(
     alloc: Global,
     reader: I,
     writer: &mut W,
     array: &mut A,
-) {
+) -> Result<(), Fault> {
     for line in reader.split(alloc, b'\n') {
         let Ok(line) = line else {
             break;
@@ -93,5 +94,11 @@ pub fn console<I: BufRead + Drop, W: Write, A: Operations>(
         }
     }
     array.close();
-    array.flush();
+    match array.flush() {
+        Ok(()) => Ok(()),
+        Err(unit) => {
+            let _ = writeln!(writer, "not flushed {unit}");
+            Err(Fault::NotFlushed(unit))
+        }
+    }
 }

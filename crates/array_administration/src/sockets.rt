@@ -4,7 +4,7 @@ use crate::administered::Administered;
 use crate::collector::ArrayCollector;
 use crate::control;
 use command_line::{Fault, Options};
-use event_log::Log;
+use event_log::{Log, start_ticks};
 use std::alloc::Global;
 use std::fs::File;
 use std::io;
@@ -107,6 +107,9 @@ pub fn answer<
         http,
         control,
     } = sockets;
+    if (http.is_some() || control.is_some()) && start_ticks(rt, array.log()).is_err() {
+        return Err(Fault::NoMemory);
+    }
     if let Some(listener) = http
         && open_window(rt, alloc, options, version, array, listener).is_err()
     {

@@ -12,10 +12,13 @@ use std::sync::Arc;
 use std::time::Clock;
 
 /// The variable that says where the window is.
-const HTTP: &str = "ARRAYD_HTTP";
+pub const HTTP: &str = "ARRAYD_HTTP";
 
 /// The variable that names the path of the control socket.
-const CONTROL: &str = "ARRAYD_CONTROL";
+pub const CONTROL: &str = "ARRAYD_CONTROL";
+
+/// The most bytes that the path of a UNIX socket has.
+const LONGEST_PATH: usize = 107;
 
 /// What is asked for: where the window is to be, and the path of the control socket.
 #[derive(Drop)]
@@ -35,11 +38,19 @@ fn window_at<R: Env + AllocGlobal>(rt: &R) -> Result<Option<SocketAddrV4>, Fault
     }
 }
 
+// The path of the control socket, where there is to be one.
+fn control_at<R: Env + AllocGlobal>(rt: &R) -> Result<Option<String>, Fault> {
+    match value_of(rt, CONTROL)? {
+        Some(path) if path.len() > LONGEST_PATH => Err(Fault::WrongWords),
+        path => Ok(path),
+    }
+}
+
 /// What the environment asks for; or why it is refused, and the variable.
 pub fn read<R: Env + AllocGlobal>(rt: &R) -> Result<Asked, (Fault, &'static str)> {
     Ok(Asked {
         http: window_at(rt).map_err(|fault| (fault, HTTP))?,
-        control: value_of(rt, CONTROL).map_err(|fault| (fault, CONTROL))?,
+        control: control_at(rt).map_err(|fault| (fault, CONTROL))?,
     })
 }
 
@@ -57,12 +68,17 @@ fn listen<R: Net<Listener = TcpListener, Stream = TcpStream> + Clock>(
         Err(e) => {
             let error = u32::try_from(e.raw_os_error().unwrap_or(0)).unwrap_or(0);
             log.tell(rt, &Event::CannotListen(0, at, error));
-            Err(Fault::CannotListenAt(at))
+            Err(Fault::CannotListenAt(at, error))
         }
     }
 }
 
 impl Asked {
+    /// The path of the control socket, where there is to be one.
+    pub fn control(&self) -> Option<&str> {
+        self.control.as_deref()
+    }
+
     // Whether anything is asked for.
     fn is_some(&self) -> bool {
         self.http.is_some() || self.control.is_some()

@@ -10,7 +10,7 @@ use std::rt::Files;
 use std::time::Clock;
 
 /// The variable of the environment that names the file.
-const VARIABLE: &str = "ARRAYD_LOG";
+pub const VARIABLE: &str = "ARRAYD_LOG";
 
 /// The file of this name. Where there is none it is made.
 #[derive(Drop)]
@@ -27,14 +27,19 @@ impl<R: Files<File = File> + Drop> LogFile<R> {
     {
         match env::var(&rt, VARIABLE) {
             Ok(path) if !path.is_empty() => Ok(Some(LogFile { rt, path })),
+            Ok(_) | Err(VarError::NotPresent) => Ok(None),
             Err(VarError::OutOfMemory) => Err(Fault::NoMemory),
-            _ => Ok(None),
+            Err(_) => Err(Fault::WrongWords),
         }
     }
-}
 
-impl<R: Files<File = File> + Drop> Page for LogFile<R> {
-    fn open(&self) -> Option<File> {
+    /// Its path.
+    pub fn path(&self) -> &str {
+        self.path.as_str()
+    }
+
+    /// Opens it; else the error of the system, 0 where it told none.
+    pub fn opened(&self) -> Result<File, i32> {
         // For reading too: so a pipe that nobody reads is opened at once.
         let file = File::options()
             .read(true)
@@ -42,9 +47,15 @@ impl<R: Files<File = File> + Drop> Page for LogFile<R> {
             .create(true)
             .open(&self.rt, self.path.as_str());
         match file {
-            Ok(file) => Some(file),
-            Err(_) => None,
+            Ok(file) => Ok(file),
+            Err(e) => Err(e.raw_os_error().unwrap_or(0)),
         }
+    }
+}
+
+impl<R: Files<File = File> + Drop> Page for LogFile<R> {
+    fn open(&self) -> Option<File> {
+        self.opened().ok()
     }
 }
 

@@ -9,12 +9,13 @@ mod administration;
 mod log_file;
 mod once;
 mod settings;
+mod target_name;
 mod told;
 
 use administration::Asked;
 use array::{open, open_files, serve, serve_timed, tell_want};
 use command_line::{Fault, MAX_UNITS, Options};
-use event_log::{Event, Log, Page, start};
+use event_log::{Event, Log, start};
 use log_file::LogFile;
 use settings::Settings;
 use std::alloc::Global;
@@ -56,23 +57,60 @@ fn counting_log<R: Env + AllocGlobal + Files<File = File> + Clone + Drop>(
     Ok((asked.counted(alloc, log, units)?, file))
 }
 
-// Says on standard error why the program ends; its exit status.
-fn complain(rt: &impl Eprint, fault: Fault) -> ExitCode
-    ensures { exit_status result ≡ status_of fault }
-{
-    let _ = eprintln!(rt; "arrayd: {fault}");
-    fault.status()
-}
-
-// The exit status of what has ended so.
-fn status_of_end(rt: &impl Eprint, end: Result<(), Fault>) -> ExitCode {
-    match end {
-        Ok(()) => ExitCode::SUCCESS,
-        Err(fault) => complain(rt, fault),
+// The variable of the log's file, where that is what is wrong.
+fn variable_of(fault: Fault) -> &'static str {
+    match fault {
+        Fault::WrongWords => log_file::VARIABLE,
+        _ => "",
     }
 }
 
-// The same, before the log is open. Which word or variable is wrong is written to the log's file first.
+// Says on standard error why the program ends, and of what that is told, if of anything; its exit status.
+fn complain(rt: &impl Eprint, fault: Fault, of: &str) -> ExitCode
+    ensures { exit_status result ≡ status_of fault }
+{
+    let before = if of.is_empty() { "" } else { ": " };
+    let _ = eprintln!(rt; "arrayd: {fault}{before}{of}");
+    fault.status()
+}
+
+// The disk of a unit.
+fn disk_of<'a>(options: &'a Options<'_>, unit: u8) -> &'a str {
+    match options.paths.get(usize::from(unit)) {
+        Some(path) => *path,
+        None => "",
+    }
+}
+
+// The file of which a fault tells; of a registration file that of its disk.
+fn file_of<'a>(fault: Fault, options: &'a Options<'_>, asked: &'a Asked) -> &'a str {
+    match fault {
+        Fault::OtherUnit(unit, _, _, _)
+        | Fault::CannotUseUnit(unit, _, _)
+        | Fault::CannotUseRegistrationFile(unit, _, _)
+        | Fault::NotFlushed(unit) => disk_of(options, unit),
+        Fault::CannotControl(_) => asked.control().unwrap_or(""),
+        Fault::WrongWords
+        | Fault::CannotListen(_, _, _, _)
+        | Fault::CannotListenAt(_, _)
+        | Fault::NoMemory => "",
+    }
+}
+
+// The exit status of what has ended so.
+fn status_of_end(
+    rt: &impl Eprint,
+    end: Result<(), Fault>,
+    options: &Options<'_>,
+    asked: &Asked,
+) -> ExitCode {
+    match end {
+        Ok(()) => ExitCode::SUCCESS,
+        Err(fault) => complain(rt, fault, file_of(fault, options, asked)),
+    }
+}
+
+// Why the program ends, before the log is open. Which word or variable is wrong is written to the log's file first.
 fn refuse<R: Clock + Env + AllocGlobal + Files<File = File> + Eprint + Clone + Drop>(
     rt: &R,
     alloc: Global,
@@ -83,8 +121,9 @@ fn refuse<R: Clock + Env + AllocGlobal + Files<File = File> + Eprint + Clone + D
 {
     if fault == Fault::WrongWords {
         let _ = log_file::write_one(rt, alloc, &Event::WrongWords(what.as_bytes()));
+        return complain(rt, fault, what);
     }
-    complain(rt, fault)
+    complain(rt, fault, "")
 }
 
 // The options that the words give; or the exit status, where a word is wrong.
@@ -117,7 +156,18 @@ fn asked<
     }
     let mut options = options_of(rt, alloc, words)?;
     if options.is_once {
-        return Err(status_of_end(rt, once::serve_once(rt, alloc)));
+        return Err(match once::serve_once(rt, alloc) {
+            Ok(()) => ExitCode::SUCCESS,
+            Err(fault) => complain(rt, fault, ""),
+        });
+    }
+    if !target_name::is_allowed(options.target) {
+        return Err(refuse(rt, alloc, Fault::WrongWords, "--target"));
+    }
+    match settings::unknown(rt) {
+        Ok(None) => {}
+        Ok(Some(name)) => return Err(refuse(rt, alloc, Fault::WrongWords, name.as_str())),
+        Err(fault) => return Err(complain(rt, fault, "")),
     }
     match settings::read(rt) {
         Ok(settings) => {
@@ -129,12 +179,18 @@ fn asked<
 }
 
 // The same as `complain`, once the log is open: it is told of want of memory, and closed.
-fn give_up(rt: &(impl Eprint + Clock), log: &Log, fault: Fault) -> ExitCode
+fn give_up(
+    rt: &(impl Eprint + Clock),
+    log: &Log,
+    fault: Fault,
+    options: &Options<'_>,
+    asked: &Asked,
+) -> ExitCode
     ensures { exit_status result ≡ status_of fault }
 {
     tell_want(rt, log, fault);
     event_log::close(rt, log);
-    complain(rt, fault)
+    complain(rt, fault, file_of(fault, options, asked))
 }
 
 fn main(rt: HostRuntime) -> ExitCode {
@@ -150,27 +206,28 @@ fn main(rt: HostRuntime) -> ExitCode {
     let asked = &settings.asked;
     let (log, file) = match counting_log(&rt, alloc, asked, options.paths.len()) {
         Ok(found) => found,
-        Err(fault) => return complain(&rt, fault),
+        Err(fault) => return complain(&rt, fault, variable_of(fault)),
     };
     // The types that the log's thread takes along are known here alone.
     if let Some(file) = file {
-        if file.open().is_none() {
-            let _ = eprintln!(&rt; "arrayd: cannot write the log");
+        if let Err(error) = file.opened() {
+            let path = file.path();
+            let _ = eprintln!(&rt; "arrayd: cannot write the log: errno {error}: {path}");
         }
         if start::<HostRuntime, LogFile<HostRuntime>>(&rt, alloc, &log, file).is_err() {
-            return complain(&rt, Fault::NoMemory);
+            return complain(&rt, Fault::NoMemory, "");
         }
         log.tell(&rt, &Event::Started(told::VERSION.as_bytes()));
     }
     let administration = match asked.opened(&rt, &log) {
         Ok(administration) => administration,
-        Err(fault) => return give_up(&rt, &log, fault),
+        Err(fault) => return give_up(&rt, &log, fault, &options, asked),
     };
     // What serves closes the log, whatever comes.
     if let Some(patience) = settings.patience {
         let parts = match open_files(&rt, alloc, &log, &options) {
             Ok(parts) => parts,
-            Err(fault) => return give_up(&rt, &log, fault),
+            Err(fault) => return give_up(&rt, &log, fault, &options, asked),
         };
         let (reader, mut writer) = (rt.reader(), io::writer(&rt));
         let served = serve_timed(
@@ -184,11 +241,11 @@ fn main(rt: HostRuntime) -> ExitCode {
             reader,
             &mut writer,
         );
-        return status_of_end(&rt, served);
+        return status_of_end(&rt, served, &options, asked);
     }
     let array = match open(&rt, alloc, &log, &options) {
         Ok(array) => array,
-        Err(fault) => return give_up(&rt, &log, fault),
+        Err(fault) => return give_up(&rt, &log, fault, &options, asked),
     };
     let served = serve(
         &rt,
@@ -200,5 +257,5 @@ fn main(rt: HostRuntime) -> ExitCode {
         rt.reader(),
         &mut io::writer(&rt),
     );
-    status_of_end(&rt, served)
+    status_of_end(&rt, served, &options, asked)
 }

@@ -1,6 +1,7 @@
 //! What the environment asks for, beside the log.
 
 use crate::administration::{self, Asked};
+use crate::log_file;
 use command_line::Fault;
 use std::env::{self, Env, VarError};
 use std::net::Ipv4Addr;
@@ -48,6 +49,30 @@ fn second_host<R: Env + AllocGlobal>(rt: &R) -> Result<Option<Ipv4Addr>, Fault> 
         Ok(address) => Ok(Some(address)),
         Err(_) => Err(Fault::WrongWords),
     }
+}
+
+// Whether the program knows the variable of this name.
+fn is_known(name: &str) -> bool {
+    matches!(
+        name,
+        DEADLINE | SECOND_HOST | log_file::VARIABLE | administration::HTTP | administration::CONTROL
+    )
+}
+
+/// A variable of the environment that begins as those of the program do, and is none of them. None is looked for where there is a
+/// variable, whosever, that is no UTF-8.
+pub fn unknown<R: Env + AllocGlobal>(rt: &R) -> Result<Option<String>, Fault> {
+    let vars = match env::vars(rt) {
+        Ok(vars) => vars,
+        Err(VarError::OutOfMemory) => return Err(Fault::NoMemory),
+        Err(_) => return Ok(None),
+    };
+    for (name, _value) in vars {
+        if name.as_str().starts_with("ARRAYD_") && !is_known(name.as_str()) {
+            return Ok(Some(name));
+        }
+    }
+    Ok(None)
 }
 
 /// What the environment asks for: how long a call of a unit's file may take, the address of controller 2, and what the array is to

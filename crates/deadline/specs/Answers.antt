@@ -9,8 +9,9 @@ use Rattle.disk_preparer.specs.Beside.{was_read}
 use Rattle.deadline.specs.declared.errand.Wanted.{Wanted}
 use Rattle.deadline.specs.declared.errand.Wanted.TheVariants.{Read, Write, Flush, Open}
 
--- what a thread is asked, or was, as contracts see it
+-- what a thread is asked, or was, as contracts see it, and the number of its asking
 pub record ErrandValue : Type 0 where
+  pub serial : ℕ
   pub wanted : Wanted
   pub bytes : List ℕ
   pub is_done : Bool

@@ -1,27 +1,27 @@
 //! A device whose calls have a deadline.
-ghost use Rattle.std.specs.Prelude.{◌≡◌, ◌<◌, ◌+◌, ◌^◌, true, [], false, min, length, List, ℕ, IfOk, IfSome, IsTrue, OnOk, OnErr};
+ghost use Rattle.std.specs.Prelude.{◌≡◌, ◌<◌, ◌≤◌, ◌+◌, ◌^◌, true, [], false, min, length, List, ℕ, IfOk, IfSome, IsTrue, OnOk, OnErr};
+ghost use Rattle.std.specs.Arc.{arc_value};
 ghost use Rattle.std.proofs.Common.{arith};
 ghost use Rattle.block_file.specs.Cut.{IsRun};
 ghost use Rattle.block_file.specs.Failures.{last_count};
 ghost use Rattle.deadline.specs.Counted.{CountsRead, CountsWrite};
 ghost use Rattle.deadline.specs.Answers.{HasAnswered, HasFlushed, HasOpened, HasRead, HasWrittenSome, WereGiven};
 
+use crate::asker::{Asker, Turn};
 use crate::errand::{DeviceRunner, Errand, Wanted};
-use crate::hatch::Asker;
 use crate::watch::Watch;
 use block_file::{Blocks, DeviceFailed, Opener};
 use disk_preparer::{BlockMemory, Node, OnDisk};
-use event_log::Call;
 use std::alloc::Global;
 use std::io;
 use std::sync::{Arc, Mutex, Wait};
 use std::thread::Threads;
 use std::time::Clock;
 
-/// A device whose calls its thread makes. One that does not come back in time has failed, and so does each later one.
+/// A device whose calls its thread makes. One that does not come back in time has failed, and so does each later one until it has.
 ///
 /// What is answered is what the device answered, or that it failed. Of its contents nothing is claimed: a write that has failed for
-/// time may land at any moment, and no read is ever answered behind it.
+/// time may land at any moment until it comes back, and no read is answered before.
 pub struct Deadlined<R: Wait + Clock + Drop, B: Blocks, O: Opener<B>> {
     rt: R,
     asker: Mutex<Asker<R, Errand<B, O>>>,
@@ -31,7 +31,7 @@ pub struct Deadlined<R: Wait + Clock + Drop, B: Blocks, O: Opener<B>> {
     pub(crate) opened: u64,
     failed_reads: u64,
     failed_writes: u64,
-    // How many writes have come back, or are waited for no more.
+    // How many writes have come back, or are waited for no more; and how many calls came back that were not.
     writes: u64,
     ghost fits: { count < 2 ^ 32 },
     ghost some: { 0 < count },
@@ -68,6 +68,7 @@ impl<
     ) -> io::Result<Deadlined<R, B, O>>
         requires some { 0 < B.size blocks }
         requires disk { node ≡ B.OnDisk.disk blocks }
+        requires watched { (arc_value watch.now).node ≡ node }
         ensures disk { IfOk result (λ d. d.node ≡ node) }
         ensures unused { IfOk result (λ d. (d.count ≡ B.size blocks) × (d.opened ≡ 0) × (d.failed_reads ≡ 0) × (d.failed_writes ≡ 0)) }
     {
@@ -88,19 +89,39 @@ impl<
     }
 }
 
+// Takes the right to ask. Where the call before came late, what it was has landed since: it counts as one more write that came back, so
+// that nothing is taken that was read beside the device before.
+fn take_by<R: Wait + Clock + Drop, B: Blocks, O: Opener<B>>(
+    asker: &mut Asker<R, Errand<B, O>>,
+    writes: &mut u64,
+) -> Option<(Turn, Errand<B, O>)>
+    ensures rises { writes.old ≤ writes.new }
+    ensures told { IfSome result (λ t. asker.new.is_late ≡ false) }
+{
+    let taken = asker.take()?;
+    if asker.has_come_late() {
+        *writes = writes.saturating_add(1);
+        asker.watch().wrote(*writes);
+    }
+    Some(taken)
+}
+
 // Reads a run, by the thread of the device.
 fn read_by<R: Wait + Clock + Drop, B: Blocks, O: Opener<B>>(
     asker: &mut Asker<R, Errand<B, O>>,
+    writes: &mut u64,
     first: u32,
     bytes: &mut [u8],
 ) -> bool
-    ensures { IsTrue result → HasRead B.claims B.contents first bytes.new }
+    ensures answered { IsTrue result → HasRead B.claims B.contents first bytes.new }
+    ensures rises { writes.old ≤ writes.new }
 {
     let wanted = Wanted::Read(first);
-    let Some(errand) = asker.take() else {
+    let Some((turn, errand)) = take_by(asker, writes) else {
         return false;
     };
-    let Some(answered) = asker.ask(errand.with_room(wanted, bytes.len()), Call::Read) else {
+    let errand = errand.with_room(turn.serial, wanted, bytes.len());
+    let Some(answered) = asker.ask(turn, errand) else {
         return false;
     };
     let is_read = answered.gives(wanted, bytes);
@@ -108,9 +129,11 @@ fn read_by<R: Wait + Clock + Drop, B: Blocks, O: Opener<B>>(
     is_read
 }
 
-// Reads a run into memory that goes to the thread of the device and comes back.
+// Reads a run into memory that goes to the thread of the device and comes back, by this right to ask and this errand.
 fn read_into_by<R: Wait + Clock + Drop, B: Blocks, O: Opener<B>>(
     asker: &mut Asker<R, Errand<B, O>>,
+    turn: Turn,
+    errand: Errand<B, O>,
     first: u32,
     bytes: Vec<u8>,
 ) -> Option<Vec<u8>>
@@ -119,11 +142,11 @@ fn read_into_by<R: Wait + Clock + Drop, B: Blocks, O: Opener<B>>(
 {
     let wanted = Wanted::Read(first);
     let count = bytes.len();
-    let errand = asker.take()?;
-    let (errand, own) = errand.with_memory(wanted, bytes);
-    let answered = asker.ask(errand, Call::Read)?;
+    let serial = turn.serial;
+    let (errand, own) = errand.with_memory(serial, wanted, bytes);
+    let answered = asker.ask(turn, errand)?;
     let is_read = answered.has_done_all(wanted, count);
-    let (kept, read) = answered.with_memory(Wanted::Flush, own);
+    let (kept, read) = answered.with_memory(serial, Wanted::Flush, own);
     asker.keep(kept);
     if is_read { Some(read) } else { None }
 }
@@ -131,16 +154,20 @@ fn read_into_by<R: Wait + Clock + Drop, B: Blocks, O: Opener<B>>(
 // Writes a run, by the thread of the device.
 fn write_by<R: Wait + Clock + Drop, B: Blocks, O: Opener<B>>(
     asker: &mut Asker<R, Errand<B, O>>,
+    writes: &mut u64,
     first: u32,
     bytes: &[u8],
 ) -> bool
-    ensures { IsTrue result → HasWrittenSome B.claims B.contents first (length bytes.now) }
+    ensures answered { IsTrue result → HasWrittenSome B.claims B.contents first (length bytes.now) }
+    ensures rises { writes.old ≤ writes.new }
 {
     let wanted = Wanted::Write(first);
-    let Some(errand) = asker.take() else {
+    let Some((turn, errand)) = take_by(asker, writes) else {
         return false;
     };
-    let Some(answered) = asker.ask(errand.with_bytes(wanted, bytes), Call::Write) else {
+    asker.watch().writes_bytes(bytes.len());
+    let errand = errand.with_bytes(turn.serial, wanted, bytes);
+    let Some(answered) = asker.ask(turn, errand) else {
         return false;
     };
     let is_written = answered.has_done_all(wanted, bytes.len());
@@ -148,18 +175,17 @@ fn write_by<R: Wait + Clock + Drop, B: Blocks, O: Opener<B>>(
     is_written
 }
 
-// Has the thread of the device do what takes no bytes: whether that was done.
+// Has the thread of the device do what takes no bytes, by this right to ask and this errand: whether that was done.
 fn done_by<R: Wait + Clock + Drop, B: Blocks, O: Opener<B>>(
     asker: &mut Asker<R, Errand<B, O>>,
+    turn: Turn,
+    errand: Errand<B, O>,
     wanted: Wanted,
-    call: Call,
 ) -> bool
     ensures { IsTrue result → (bytes : List ℕ) × HasAnswered B.claims B.contents B.may_hold O.opened wanted bytes }
 {
-    let Some(errand) = asker.take() else {
-        return false;
-    };
-    let Some(answered) = asker.ask(errand.with_room(wanted, 0), call) else {
+    let errand = errand.with_room(turn.serial, wanted, 0);
+    let Some(answered) = asker.ask(turn, errand) else {
         return false;
     };
     let is_done = answered.has_done(wanted);
@@ -167,12 +193,35 @@ fn done_by<R: Wait + Clock + Drop, B: Blocks, O: Opener<B>>(
     is_done
 }
 
+// Has the thread of the device flush it, and tells the watch that a flush has come back.
+fn flush_by<R: Wait + Clock + Drop, B: Blocks, O: Opener<B>>(
+    asker: &mut Asker<R, Errand<B, O>>,
+    writes: &mut u64,
+) -> bool
+    ensures answered { IsTrue result → HasFlushed B.claims B.contents B.may_hold }
+    ensures rises { writes.old ≤ writes.new }
+{
+    let Some((turn, errand)) = take_by(asker, writes) else {
+        return false;
+    };
+    let written = asker.watch().written();
+    let is_flushed = done_by(asker, turn, errand, Wanted::Flush);
+    if is_flushed {
+        asker.watch().flush_came_back(true, written);
+    }
+    is_flushed
+}
+
 impl<R: Wait + Clock + Drop, B: Blocks, O: Opener<B>> Deadlined<R, B, O> {
     // Whether the device was opened anew.
     pub(crate) fn is_opened_anew(&self) -> bool
         ensures { IsTrue result → HasOpened O.opened }
     {
-        done_by(&mut self.asker.lock(&self.rt), Wanted::Open, Call::Open)
+        let mut asker = self.asker.lock(&self.rt);
+        match asker.take() {
+            Some((turn, errand)) => done_by(&mut asker, turn, errand, Wanted::Open),
+            None => false,
+        }
     }
 }
 
@@ -239,10 +288,10 @@ impl<R: Wait + Clock + Drop, B: Blocks, O: Opener<B>> Blocks for Deadlined<R, B,
         ensures answered { OnOk result (HasRead B.claims B.contents first bytes.new) }
         ensures counted { CountsRead self.old.failed_reads self.old.failed_writes self.new.failed_reads self.new.failed_writes
             result }
-        ensures written { self.new.writes ≡ self.old.writes }
+        ensures rises { self.old.writes ≤ self.new.writes }
         ensures opened { (self.new.opened ≡ self.old.opened) × (self.new.node ≡ self.old.node) }
     {
-        let is_read = read_by(self.asker.get_mut(), first, bytes);
+        let is_read = read_by(self.asker.get_mut(), &mut self.writes, first, bytes);
         ended(is_read, &mut self.failed_reads)
     }
 
@@ -255,16 +304,20 @@ impl<R: Wait + Clock + Drop, B: Blocks, O: Opener<B>> Blocks for Deadlined<R, B,
             WereGiven B.claims B.contents self.old.node first self.new.writes blocks.items) }
         ensures counted { CountsRead self.old.failed_reads self.old.failed_writes self.new.failed_reads self.new.failed_writes
             result }
-        ensures written { self.new.writes ≡ self.old.writes }
+        ensures rises { self.old.writes ≤ self.new.writes }
         ensures opened { (self.new.opened ≡ self.old.opened) × (self.new.node ≡ self.old.node) }
     {
-        let writes = self.writes;
         let asker = self.asker.get_mut();
-        let is_hung = asker.watch().is_hung();
-        if !is_hung && writes < u64::MAX && memory.holds(self.node, u64::from(first), writes) {
+        let Some((turn, errand)) = take_by(asker, &mut self.writes) else {
+            self.failed_reads = self.failed_reads.saturating_add(1);
+            return Err(DeviceFailed);
+        };
+        let writes = self.writes;
+        if writes < u64::MAX && memory.holds(self.node, u64::from(first), writes) {
+            asker.keep(errand);
             return Ok(memory.bytes);
         }
-        match read_into_by(asker, first, memory.bytes) {
+        match read_into_by(asker, turn, errand, first, memory.bytes) {
             Some(blocks) => Ok(blocks),
             None => {
                 self.failed_reads = self.failed_reads.saturating_add(1);
@@ -279,11 +332,11 @@ impl<R: Wait + Clock + Drop, B: Blocks, O: Opener<B>> Blocks for Deadlined<R, B,
         ensures answered { OnOk result (HasWrittenSome B.claims B.contents first (length bytes.now)) }
         ensures counted { CountsWrite self.old.failed_reads self.old.failed_writes self.new.failed_reads self.new.failed_writes
             result }
-        ensures written { self.new.writes ≡ min (self.old.writes + 1) last_count }
+        ensures written { min (self.old.writes + 1) last_count ≤ self.new.writes }
         ensures opened { (self.new.opened ≡ self.old.opened) × (self.new.node ≡ self.old.node) }
     {
         let asker = self.asker.get_mut();
-        let is_written = write_by(asker, first, bytes);
+        let is_written = write_by(asker, &mut self.writes, first, bytes);
         self.writes = self.writes.saturating_add(1);
         asker.watch().wrote(self.writes);
         ended(is_written, &mut self.failed_writes)
@@ -294,10 +347,10 @@ impl<R: Wait + Clock + Drop, B: Blocks, O: Opener<B>> Blocks for Deadlined<R, B,
         ensures answered { OnOk result (HasFlushed B.claims B.contents B.may_hold) }
         ensures counted { CountsWrite self.old.failed_reads self.old.failed_writes self.new.failed_reads self.new.failed_writes
             result }
-        ensures written { self.new.writes ≡ self.old.writes }
+        ensures rises { self.old.writes ≤ self.new.writes }
         ensures opened { (self.new.opened ≡ self.old.opened) × (self.new.node ≡ self.old.node) }
     {
-        let is_flushed = done_by(self.asker.get_mut(), Wanted::Flush, Call::Flush);
+        let is_flushed = flush_by(self.asker.get_mut(), &mut self.writes);
         ended(is_flushed, &mut self.failed_writes)
     }
 }

@@ -3,8 +3,9 @@ ghost use Rattle.std.specs.Prelude.{◌≡◌, true, length, IsTrue};
 ghost use Rattle.block_file.specs.Cut.{IsRun};
 ghost use Rattle.deadline.specs.Answers.{HasAnswered, HasFlushed, HasOpened, HasRead, HasWritten};
 
-use crate::hatch::Runner;
+use crate::hatch::{Asked, Runner};
 use block_file::{BLOCK_LENGTH, Blocks, Opener};
+use event_log::Call;
 use std::alloc::{AllocError, Global};
 use std::marker::{Model, PhantomData};
 
@@ -20,9 +21,10 @@ pub(crate) enum Wanted {
     Open,
 }
 
-/// What the thread of a device is asked, with the bytes of the run; and whether that was done, and went well.
+/// What the thread of a device is asked under this number, with the bytes of the run; and whether that was done, and went well.
 #[derive(Drop)]
 pub(crate) struct Errand<B: Blocks, O: Opener<B>> {
+    serial: u64,
     wanted: Wanted,
     bytes: Vec<u8>,
     is_done: bool,
@@ -35,7 +37,7 @@ impl<B: Blocks, O: Opener<B>> Model for Errand<B, O> {
 
     ghost Value = { ErrandValue };
 
-    ghost view = { λ e. record { wanted = e.wanted; bytes = e.bytes.items; is_done = e.is_done } };
+    ghost view = { λ e. record { serial = e.serial; wanted = e.wanted; bytes = e.bytes.items; is_done = e.is_done } };
 
     ghost invariant = { λ e. e.is_done ≡ true
         → HasAnswered B.claims B.contents B.may_hold O.opened e.wanted e.bytes.items };
@@ -46,6 +48,7 @@ impl<B: Blocks, O: Opener<B>> Errand<B, O> {
     pub(crate) fn new(alloc: Global) -> Result<Errand<B, O>, AllocError> {
         let bytes = Vec::with_capacity(alloc, LONGEST)?;
         Ok(Errand {
+            serial: 0,
             wanted: Wanted::Flush,
             bytes,
             is_done: false,
@@ -54,10 +57,13 @@ impl<B: Blocks, O: Opener<B>> Errand<B, O> {
     }
 
     /// Asks for this, with room for so many bytes. The room may be wanting.
-    pub(crate) fn with_room(self, wanted: Wanted, length: usize) -> Errand<B, O> {
+    pub(crate) fn with_room(self, serial: u64, wanted: Wanted, length: usize) -> Errand<B, O>
+        ensures { result.serial ≡ serial }
+    {
         let mut bytes = self.bytes;
         let _ = bytes.resize(length, 0);
         Errand {
+            serial,
             wanted,
             bytes,
             is_done: false,
@@ -66,11 +72,14 @@ impl<B: Blocks, O: Opener<B>> Errand<B, O> {
     }
 
     /// Asks for this, with these bytes. Their room may be wanting.
-    pub(crate) fn with_bytes(self, wanted: Wanted, part: &[u8]) -> Errand<B, O> {
+    pub(crate) fn with_bytes(self, serial: u64, wanted: Wanted, part: &[u8]) -> Errand<B, O>
+        ensures { result.serial ≡ serial }
+    {
         let mut bytes = self.bytes;
         bytes.clear();
         let _ = bytes.extend_from_slice(part);
         Errand {
+            serial,
             wanted,
             bytes,
             is_done: false,
@@ -79,10 +88,17 @@ impl<B: Blocks, O: Opener<B>> Errand<B, O> {
     }
 
     /// Asks for this, with these bytes in place of its own, which it gives.
-    pub(crate) fn with_memory(self, wanted: Wanted, given: Vec<u8>) -> (Errand<B, O>, Vec<u8>)
-        ensures { result.1.items ≡ self.bytes }
+    pub(crate) fn with_memory(
+        self,
+        serial: u64,
+        wanted: Wanted,
+        given: Vec<u8>,
+    ) -> (Errand<B, O>, Vec<u8>)
+        ensures serial { result.0.serial ≡ serial }
+        ensures own { result.1.items ≡ self.bytes }
     {
         let errand = Errand {
+            serial,
             wanted,
             bytes: given,
             is_done: false,
@@ -117,6 +133,23 @@ impl<B: Blocks, O: Opener<B>> Errand<B, O> {
         }
         bytes.copy_from_slice(self.bytes.as_slice());
         true
+    }
+}
+
+impl<B: Blocks, O: Opener<B>> Asked for Errand<B, O> {
+    ghost serial = { λ e. e.serial };
+
+    fn serial(&self) -> u64 {
+        self.serial
+    }
+
+    fn call(&self) -> Call {
+        match self.wanted {
+            Wanted::Read(_) => Call::Read,
+            Wanted::Write(_) => Call::Write,
+            Wanted::Flush => Call::Flush,
+            Wanted::Open => Call::Open,
+        }
     }
 }
 
@@ -183,10 +216,11 @@ impl<B: Blocks, O: Opener<B>> DeviceRunner<B, O> {
 
 impl<B: Blocks, O: Opener<B>> Runner<Errand<B, O>> for DeviceRunner<B, O> {
     fn run(&mut self, errand: Errand<B, O>) -> Errand<B, O> {
-        let wanted = errand.wanted;
+        let (serial, wanted) = (errand.serial, errand.wanted);
         let mut bytes = errand.bytes;
         let is_done = self.does(wanted, &mut bytes);
         Errand {
+            serial,
             wanted,
             bytes,
             is_done,

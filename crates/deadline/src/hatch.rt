@@ -1,25 +1,17 @@
 //! Where one who asks and a thread hand an errand to each other.
+ghost use Rattle.std.specs.Prelude.{◌≡◌, ◌+◌, ℕ, IfOk, IfSome, Some};
+ghost use Rattle.std.specs.Arc.{arc_value};
 
-ghost use Rattle.std.specs.Prelude.{◌≡◌, None, Some};
-
+use crate::spent::Spent;
 use crate::watch::Watch;
 use crossbeam_utils::CachePadded;
 use event_log::Call;
-use std::alloc::{AllocError, Global};
 use std::hint::spin_loop;
 use std::io;
 use std::sync::atomic::{AtomicBool, AtomicU64, Ordering};
 use std::sync::{Arc, Mutex, Wait};
 use std::thread::{Builder, JoinHandle, Threads};
 use std::time::{Clock, Duration};
-
-/// What the stack of the thread takes.
-const STACK: usize = 256 * 1024;
-
-/// How often one who asked looks for the answer before it sleeps, and the thread for what is asked: some 20 and 80 microseconds.
-const FOR_ANSWERS: u32 = 10_000;
-
-pub(crate) const FOR_ERRANDS: u32 = 40_000;
 
 /// After it has looked in vain so often in a row, a side sleeps at once so often, and then tries again.
 const IN_VAIN: u32 = 3;
@@ -39,7 +31,22 @@ const ANSWERED: u64 = 3;
 const RESTING: u64 = 4;
 
 /// Nobody asks any more.
-const OVER: u64 = 5;
+pub(crate) const OVER: u64 = 5;
+
+/// It is asked, and who asked has given it up.
+const LATE: u64 = 6;
+
+/// What a thread is asked and gives back.
+pub(crate) trait Asked: Drop {
+    /// The number of its asking, among those of whoever asked.
+    ghost serial: { Self → ℕ };
+
+    fn serial(&self) -> u64
+        ensures { result ≡ serial self.now };
+
+    /// Which call it is.
+    fn call(&self) -> Call;
+}
 
 /// What a thread does with an errand.
 pub(crate) trait Runner<E> {
@@ -55,12 +62,14 @@ pub(crate) trait Runner<E> {
 }
 
 /// The hatch between the two.
-struct Hatch<E> {
+pub(crate) struct Hatch<E> {
     // In a cache line of its own: one side looks at it while the other one has the errand.
-    turn: CachePadded<AtomicU64>,
+    pub(crate) turn: CachePadded<AtomicU64>,
     errand: CachePadded<Mutex<Option<E>>>,
     // Whether the thread has something to do behind its answer.
-    goes_on: AtomicBool,
+    pub(crate) goes_on: AtomicBool,
+    // The number of the errand at which the thread is, or was last.
+    begun: AtomicU64,
 }
 
 impl<E: Drop> Drop for Hatch<E> {
@@ -69,6 +78,7 @@ impl<E: Drop> Drop for Hatch<E> {
             turn: _,
             errand: _,
             goes_on: _,
+            begun: _,
         } = self;
     }
 }
@@ -76,19 +86,19 @@ impl<E: Drop> Drop for Hatch<E> {
 // How often one side looks for the other one before it sleeps. Where that has no processor it comes too late, and to look only keeps
 // it from the one that is used for that.
 #[derive(Drop)]
-struct Looks {
+pub(crate) struct Looks {
     most: u32,
     in_vain: u32,
 }
 
 impl Looks {
     // So often at most.
-    fn up_to(most: u32) -> Looks {
+    pub(crate) fn up_to(most: u32) -> Looks {
         Looks { most, in_vain: 0 }
     }
 
     // How often this time.
-    fn next(&mut self) -> u32 {
+    pub(crate) fn next(&mut self) -> u32 {
         if self.in_vain < IN_VAIN {
             return self.most;
         }
@@ -101,7 +111,7 @@ impl Looks {
     }
 
     // Whether the other side came while one looked so often.
-    fn learn(&mut self, looks: u32, came: bool) {
+    pub(crate) fn learn(&mut self, looks: u32, came: bool) {
         if looks > 0 {
             self.in_vain = if came {
                 0
@@ -121,7 +131,17 @@ pub(crate) fn left<R: Clock>(rt: &R, begun: Duration, patience: Duration) -> Opt
     if left.is_zero() { None } else { Some(left) }
 }
 
-impl<E: Drop> Hatch<E> {
+impl<E: Asked> Hatch<E> {
+    /// Nothing is asked yet.
+    pub(crate) fn new() -> Hatch<E> {
+        Hatch {
+            turn: CachePadded::new(AtomicU64::new(ANSWERED)),
+            errand: CachePadded::new(Mutex::new(None)),
+            goes_on: AtomicBool::new(false),
+            begun: AtomicU64::new(0),
+        }
+    }
+
     // Makes the turn another one, where it still is this one.
     fn exchange(&self, from: u64, to: u64) {
         let _ = self
@@ -140,26 +160,59 @@ impl<E: Drop> Hatch<E> {
         false
     }
 
-    // Whether it is answered in so much time, asleep. A clock that cannot be read ends the wait.
-    fn is_answered_in<R: Wait + Clock>(&self, rt: &R, patience: Duration) -> bool {
-        let Ok(begun) = rt.monotonic() else {
+    // Whether the thread is at this errand, or still at something of its own behind the answer before.
+    fn is_at(&self, serial: u64) -> bool {
+        self.begun.load(Ordering::Acquire) == serial || self.goes_on.load(Ordering::Acquire)
+    }
+
+    // Whether this errand, which is this call, is answered in its time, asleep. A clock that cannot be read ends the wait.
+    pub(crate) fn is_answered_in_time<R: Wait + Clock>(
+        &self,
+        rt: &R,
+        watch: &Watch,
+        serial: u64,
+        call: Call,
+    ) -> bool {
+        let Some(mut spent) = Spent::none(rt, watch) else {
             return false;
         };
         for _ in rt.forever() {
             match self.turn.load(Ordering::Acquire) {
                 ASKED => self.exchange(ASKED, AWAITED),
-                AWAITED => match left(rt, begun, patience) {
-                    Some(left) => self.turn.park_timeout(rt, AWAITED as u32, left),
-                    None => return false,
-                },
+                AWAITED => {
+                    let is_at_it = self.is_at(serial);
+                    if spent.is_all(watch, call) {
+                        return false;
+                    }
+                    self.turn.park_timeout(rt, AWAITED as u32, spent.nap());
+                    if !spent.go_on(rt, watch, call, is_at_it) {
+                        return false;
+                    }
+                }
                 _ => return true,
             }
         }
         unreachable!()
     }
 
+    // Gives an errand up: whether it was not answered yet. Its thread then tells the watch when it comes back.
+    pub(crate) fn give_up(&self) -> bool {
+        self.exchange(ASKED, AWAITED);
+        self.turn
+            .compare_exchange(AWAITED, LATE, Ordering::AcqRel, Ordering::Acquire)
+            .is_ok()
+    }
+
+    // Gives an errand that was given up, where it has come back.
+    pub(crate) fn take_late<R: Wait>(&self, rt: &R) -> Option<E> {
+        match self.turn.load(Ordering::Acquire) {
+            ANSWERED | RESTING => self.take(rt),
+            _ => None,
+        }
+    }
+
     // Hands an errand to the thread, and looks for it so often; whether it is answered by then.
-    fn is_done_soon<R: Wait>(&self, rt: &R, errand: E, looks: u32) -> bool {
+    pub(crate) fn is_done_soon<R: Wait>(&self, rt: &R, errand: E, looks: u32) -> bool {
         *self.errand.lock(rt) = Some(errand);
         if self.turn.swap(ASKED, Ordering::AcqRel) == RESTING {
             self.turn.wake_one();
@@ -168,7 +221,7 @@ impl<E: Drop> Hatch<E> {
     }
 
     // Gives an errand that is answered.
-    fn take<R: Wait>(&self, rt: &R) -> Option<E> {
+    pub(crate) fn take<R: Wait>(&self, rt: &R) -> Option<E> {
         self.errand.lock(rt).take()
     }
 
@@ -176,7 +229,7 @@ impl<E: Drop> Hatch<E> {
     fn is_asked_soon(&self, looks: u32) -> Option<bool> {
         for _ in 0..looks {
             match self.turn.load(Ordering::Acquire) {
-                ASKED | AWAITED => return Some(true),
+                ASKED | AWAITED | LATE => return Some(true),
                 OVER => return Some(false),
                 _ => spin_loop(),
             }
@@ -194,7 +247,7 @@ impl<E: Drop> Hatch<E> {
         }
         for _ in rt.forever() {
             match self.turn.load(Ordering::Acquire) {
-                ASKED | AWAITED => return true,
+                ASKED | AWAITED | LATE => return true,
                 OVER => return false,
                 RESTING => self.turn.park(rt, RESTING as u32),
                 seen => self.exchange(seen, RESTING),
@@ -203,151 +256,51 @@ impl<E: Drop> Hatch<E> {
         unreachable!()
     }
 
-    // Hands an errand back.
-    fn answer<R: Wait>(&self, rt: &R, errand: E) {
+    // Hands an errand back. The call that was given up has come back with it.
+    fn answer<R: Wait + Clock>(&self, rt: &R, watch: &Watch, errand: E) {
+        let call = errand.call();
         *self.errand.lock(rt) = Some(errand);
         match self.turn.swap(ANSWERED, Ordering::AcqRel) {
             AWAITED => self.turn.wake_one(),
             OVER => self.turn.store(OVER, Ordering::Release),
+            LATE => watch.come_back(rt, call),
             _ => {}
         }
     }
 
+    // Whether what is asked was given up before the thread came to it.
+    fn is_late(&self) -> bool {
+        self.turn.load(Ordering::Acquire) == LATE
+    }
+
     // Runs what is asked, until nobody asks any more.
-    fn serve<R: Wait, W: Runner<E>>(&self, rt: &R, runner: &mut W, most: u32) {
+    pub(crate) fn serve<R: Wait + Clock, W: Runner<E>>(
+        &self,
+        rt: &R,
+        watch: &Watch,
+        runner: &mut W,
+        most: u32,
+    ) {
         let mut looks = Looks::up_to(most);
         for _ in rt.forever() {
             if !self.is_asked(rt, &mut looks) {
                 break;
             }
             if let Some(errand) = self.take(rt) {
+                if self.is_late() {
+                    self.answer(rt, watch, errand);
+                    continue;
+                }
+                self.begun.store(errand.serial(), Ordering::Release);
                 let done = runner.run(errand);
                 let has_more = runner.has_more();
                 self.goes_on.store(has_more, Ordering::Release);
-                self.answer(rt, done);
+                self.answer(rt, watch, done);
                 if has_more {
                     runner.go_on();
                     self.goes_on.store(false, Ordering::Release);
                 }
             }
         }
-    }
-}
-
-/// One who asks, by a thread of its own. The errand is the right to ask: whoever has waited for one in vain has none any more.
-pub(crate) struct Asker<R: Wait + Clock + Drop, E: Drop> {
-    rt: R,
-    hatch: Arc<Hatch<E>, Global>,
-    watch: Arc<Watch, Global>,
-    looks: Looks,
-    errand: Option<E>,
-}
-
-impl<R: Wait + Clock + Drop, E: Drop> Drop for Asker<R, E> {
-    fn drop(self) {
-        self.hatch.turn.store(OVER, Ordering::Release);
-        self.hatch.turn.wake_all();
-        let Self {
-            rt: _,
-            hatch: _,
-            watch: _,
-            looks: _,
-            errand: _,
-        } = self;
-    }
-}
-
-impl<R: Threads + Wait + Clock + Clone + Drop + Send + 'static, E: Drop + Send + 'static> Asker<
-    R,
-    E,
-> {
-    /// Starts the thread that runs what is asked, by this errand, of a file that is watched.
-    pub(crate) fn start<W: Runner<E> + Drop + Send + 'static>(
-        rt: &R,
-        alloc: Global,
-        runner: W,
-        errand: E,
-        watch: &Arc<Watch, Global>,
-    ) -> io::Result<Asker<R, E>> {
-        Asker::start_looking(rt, alloc, runner, errand, watch, FOR_ERRANDS)
-    }
-
-    /// The same; the thread looks so often for what is asked before it sleeps.
-    pub(crate) fn start_looking<W: Runner<E> + Drop + Send + 'static>(
-        rt: &R,
-        alloc: Global,
-        runner: W,
-        errand: E,
-        watch: &Arc<Watch, Global>,
-        most: u32,
-    ) -> io::Result<Asker<R, E>> {
-        let hatch = Hatch {
-            turn: CachePadded::new(AtomicU64::new(ANSWERED)),
-            errand: CachePadded::new(Mutex::new(None)),
-            goes_on: AtomicBool::new(false),
-        };
-        let hatch = Arc::new(alloc, hatch)?;
-        let theirs = Arc::try_clone(&hatch)?;
-        let watch = Arc::try_clone(watch)?;
-        let (mine, other) = (rt.clone()?, rt.clone()?);
-        let mut runner = runner;
-        let work = move || theirs.serve(&other, &mut runner, most);
-        let _thread: JoinHandle<()> = Builder::new().stack_size(STACK).spawn(rt, work)?;
-        Ok(Asker {
-            rt: mine,
-            hatch,
-            watch,
-            looks: Looks::up_to(FOR_ANSWERS),
-            errand: Some(errand),
-        })
-    }
-}
-
-impl<R: Wait + Clock + Drop, E: Drop> Asker<R, E> {
-    /// What all share that ask calls of the file.
-    pub(crate) fn watch(&self) -> &Watch {
-        &self.watch
-    }
-
-    /// Whether the thread still has something to do behind an answer.
-    pub(crate) fn goes_on(&self) -> bool {
-        self.hatch.goes_on.load(Ordering::Acquire)
-    }
-
-    /// Takes the errand in hand, to say what is asked. None: no call on the file is made any more.
-    pub(crate) fn take(&mut self) -> Option<E>
-        ensures { self.old.errand ≡ None → result ≡ None }
-    {
-        if self.watch.is_hung() {
-            return None;
-        }
-        self.errand.take()
-    }
-
-    /// Keeps the errand for the next time.
-    pub(crate) fn keep(&mut self, errand: E)
-        ensures { self.new.errand ≡ Some errand }
-    {
-        self.errand = Some(errand);
-    }
-
-    // Whether it is answered in time, while one sleeps.
-    fn is_done(&self) -> bool {
-        self.watch.sleep();
-        self.hatch.is_answered_in(&self.rt, self.watch.patience())
-    }
-
-    /// Asks, and waits for the answer. None: it has not come in time, and never will; then there is no errand any more.
-    pub(crate) fn ask(&mut self, errand: E, call: Call) -> Option<E>
-        ensures { self.new.errand ≡ self.old.errand }
-    {
-        let looks = self.looks.next();
-        let is_soon = self.hatch.is_done_soon(&self.rt, errand, looks);
-        self.looks.learn(looks, is_soon);
-        if is_soon || self.is_done() {
-            return self.hatch.take(&self.rt);
-        }
-        self.watch.hang(call);
-        None
     }
 }

@@ -4,17 +4,16 @@ ghost use Rattle.std.specs.Arc.{arc_value};
 ghost use Rattle.deadline.specs.Back.{had_come_back};
 
 use crate::ahead::{Ahead, Hint, HintKind, has_edges};
-use crate::hatch::{Asker, FOR_ERRANDS};
-use crate::preparer_errand::{PreparerCall, PreparerErrand, PreparerRunner, behind};
+use crate::asker::{Asker, FOR_ERRANDS};
+use crate::preparer_errand::{PreparerCall, PreparerErrand, PreparerRunner};
 use crate::watch::Watch;
-use disk_preparer::{Beside, BlockMemory, Node, Preparer};
-use event_log::Call;
+use disk_preparer::{Account, Beside, BlockMemory, Node, Preparer};
 use std::alloc::Global;
 use std::io;
 use std::sync::atomic::{AtomicUsize, Ordering};
 use std::sync::{Arc, Mutex, MutexGuard, Wait};
 use std::thread::Threads;
-use std::time::Clock;
+use std::time::{Clock, Duration};
 
 /// So many calls that fetch blocks are made at a time, and so many flushes.
 const THREADS: usize = 16;
@@ -33,6 +32,7 @@ pub struct DeadlinedPreparer<R: Wait + Clock + Drop, P: Preparer> {
     flushers: Vec<Mutex<Asker<R, PreparerErrand<P>>>>,
     turns: AtomicUsize,
     ahead: Arc<Ahead, Global>,
+    ghost watched: { (arc_value watch).node ≡ node },
 }
 
 impl<R: Wait + Clock + Drop, P: Preparer> Drop for DeadlinedPreparer<R, P> {
@@ -62,7 +62,8 @@ fn askers<
     watch: &Arc<Watch, Global>,
     ahead: &Arc<Ahead, Global>,
 ) -> io::Result<Vec<Mutex<Asker<R, PreparerErrand<P>>>>>
-    requires { P.disk (arc_value preparer.now) ≡ disk }
+    requires disk { P.disk (arc_value preparer.now) ≡ disk }
+    requires watched { (arc_value watch.now).node ≡ disk }
 {
     let mut askers = Vec::with_capacity(alloc, THREADS)?;
     for number in 0..THREADS {
@@ -74,7 +75,7 @@ fn askers<
             Arc::try_clone(watch)?,
             Arc::try_clone(ahead)?,
         )?;
-        let errand = PreparerErrand::of(PreparerCall::Flush, disk);
+        let errand = PreparerErrand::of(0, PreparerCall::Flush, disk);
         let looks = if number == 0 {
             FOR_ERRANDS
         } else {
@@ -97,7 +98,8 @@ impl<
         disk: Node,
         watch: &Arc<Watch, Global>,
     ) -> io::Result<DeadlinedPreparer<R, P>>
-        requires { P.disk preparer ≡ disk }
+        requires disk { P.disk preparer ≡ disk }
+        requires watched { (arc_value watch.now).node ≡ disk }
         ensures { IfOk result (λ p. p.node ≡ disk) }
     {
         let preparer = Arc::new(alloc, preparer)?;
@@ -122,14 +124,14 @@ fn ask_by<R: Wait + Clock + Drop, P: Preparer>(
     asker: &mut Asker<R, PreparerErrand<P>>,
     wanted: PreparerCall,
     disk: Node,
-    call: Call,
 ) -> bool
     ensures { IsTrue result → P.has_flushed disk }
 {
-    let Some(_errand) = asker.take() else {
+    let Some((turn, _errand)) = asker.take() else {
         return false;
     };
-    let Some(answered) = asker.ask(PreparerErrand::of(wanted, disk), call) else {
+    let errand = PreparerErrand::of(turn.serial, wanted, disk);
+    let Some(answered) = asker.ask(turn, errand) else {
         return false;
     };
     let is_flushed = answered.has_flushed(disk);
@@ -162,7 +164,7 @@ impl<R: Wait + Clock + Drop, P: Preparer> DeadlinedPreparer<R, P> {
     fn look(&self, first: u64) -> Beside
         ensures { had_come_back result.disk result.writes }
     {
-        let (disk, writes) = (self.node, self.watch.writes(self.node));
+        let (disk, writes) = (self.node, self.watch.writes());
         Beside {
             disk,
             first,
@@ -173,7 +175,7 @@ impl<R: Wait + Clock + Drop, P: Preparer> DeadlinedPreparer<R, P> {
     // Has a thread fetch blocks.
     fn ask_fetcher(&self, wanted: PreparerCall) {
         if let Some(mut asker) = self.free(&self.fetchers) {
-            ask_by(&mut asker, wanted, self.node, Call::Read);
+            ask_by(&mut asker, wanted, self.node);
         }
     }
 }
@@ -185,15 +187,17 @@ fn read_by<R: Wait + Clock + Drop, P: Preparer>(
     bytes: Vec<u8>,
     disk: Node,
 ) -> Option<BlockMemory> {
-    let _errand = asker.take()?;
-    let answered = asker.ask(PreparerErrand::reading(wanted, disk, bytes), Call::Read)?;
+    let (turn, _errand) = asker.take()?;
+    let errand = PreparerErrand::reading(turn.serial, wanted, disk, bytes);
+    let answered = asker.ask(turn, errand)?;
     let mut answered = answered;
     let memory = answered.memory.take();
     asker.keep(answered);
     memory
 }
 
-// Has a thread read blocks beside the device, behind such a look. None: the memory is gone.
+// Has a thread read blocks beside the device, behind such a look, which stands for its stamp. None: the memory is gone.
+#[tactic(auto, using(crate::specs::Back::a_read_behind_a_look_says))]
 fn read_behind<R: Wait + Clock + Drop, P: Preparer>(
     asker: &mut Asker<R, PreparerErrand<P>>,
     beside: Beside,
@@ -209,7 +213,12 @@ fn read_behind<R: Wait + Clock + Drop, P: Preparer>(
     if memory.bytes.len() != count {
         return None;
     }
-    Some(behind(memory, beside))
+    match memory.beside {
+        Some(read) if memory.holds(beside.disk, beside.first, read.writes) => {
+            Some(BlockMemory::read(memory.bytes, beside))
+        }
+        _ => Some(BlockMemory::fresh(memory.bytes)),
+    }
 }
 
 impl<R: Wait + Clock + Drop, P: Preparer> Preparer for DeadlinedPreparer<R, P> {
@@ -280,8 +289,24 @@ impl<R: Wait + Clock + Drop, P: Preparer> Preparer for DeadlinedPreparer<R, P> {
 
     fn flush(&self) -> bool {
         match self.free(&self.flushers) {
-            Some(mut asker) => ask_by(&mut asker, PreparerCall::Flush, self.node, Call::Flush),
+            Some(mut asker) => ask_by(&mut asker, PreparerCall::Flush, self.node),
             None => false,
         }
+    }
+
+    // These call no file.
+    fn let_in(&self, bytes: u64, account: &mut Account, patience: Duration) {
+        if !self.watch.is_hung() {
+            self.preparer
+                .let_in(bytes, account, patience.min(self.watch.patience()));
+        }
+    }
+
+    fn await_flush(&self, among: u64) -> bool {
+        self.preparer.await_flush(among)
+    }
+
+    fn close(&self) {
+        self.preparer.close();
     }
 }

@@ -4,10 +4,11 @@ ghost use Rattle.std.specs.Arc.{arc_value};
 ghost use Rattle.deadline.specs.Back.{had_come_back};
 
 use crate::ahead::{Ahead, Hint, HintKind};
-use crate::hatch::{Runner, left};
+use crate::hatch::{Asked, Runner, left};
 use crate::watch::Watch;
 use block_file::BLOCK_LENGTH;
 use disk_preparer::{Beside, BlockMemory, Node, Preparer};
+use event_log::Call;
 use std::alloc::{AllocError, Global};
 use std::marker::{Model, PhantomData};
 use std::sync::{Arc, Wait};
@@ -32,9 +33,11 @@ pub(crate) enum PreparerCall {
     Flush,
 }
 
-/// What a thread of a preparer is asked and gives back: what is wanted, the memory of a read, and whether a flush was done.
+/// What a thread of a preparer is asked under this number and gives back: what is wanted, the memory of a read, and whether a flush was
+/// done.
 #[derive(Drop)]
 pub(crate) struct PreparerErrand<P: Preparer> {
+    serial: u64,
     wanted: PreparerCall,
     // Whose flush it is.
     disk: Node,
@@ -44,20 +47,23 @@ pub(crate) struct PreparerErrand<P: Preparer> {
 }
 
 impl<P: Preparer> Model for PreparerErrand<P> {
-    ghost use Rattle.std.specs.Prelude.{◌≡◌, Bool, true};
+    ghost use Rattle.std.specs.Prelude.{◌≡◌, Bool, true, ℕ};
     ghost use Rattle.disk_preparer.specs.declared.Node.{Node};
 
-    ghost Value = { Bool × Node };
+    ghost Value = { Bool × Node × ℕ };
 
-    ghost view = { λ f. (f.is_flushed, f.disk) };
+    ghost view = { λ f. (f.is_flushed, f.disk, f.serial) };
 
     ghost invariant = { λ f. f.is_flushed ≡ true → P.has_flushed f.disk };
 }
 
 impl<P: Preparer> PreparerErrand<P> {
     // One that is not done yet.
-    pub(crate) fn of(wanted: PreparerCall, disk: Node) -> PreparerErrand<P> {
+    pub(crate) fn of(serial: u64, wanted: PreparerCall, disk: Node) -> PreparerErrand<P>
+        ensures { result.2 ≡ serial }
+    {
         PreparerErrand {
+            serial,
             wanted,
             disk,
             is_flushed: false,
@@ -67,8 +73,16 @@ impl<P: Preparer> PreparerErrand<P> {
     }
 
     // One that reads, into this memory.
-    pub(crate) fn reading(wanted: PreparerCall, disk: Node, bytes: Vec<u8>) -> PreparerErrand<P> {
+    pub(crate) fn reading(
+        serial: u64,
+        wanted: PreparerCall,
+        disk: Node,
+        bytes: Vec<u8>,
+    ) -> PreparerErrand<P>
+        ensures { result.2 ≡ serial }
+    {
         PreparerErrand {
+            serial,
             wanted,
             disk,
             is_flushed: false,
@@ -85,19 +99,20 @@ impl<P: Preparer> PreparerErrand<P> {
     }
 }
 
-// Memory that was read beside the device, behind such a look at how many of its writes had come back. The stamp of the file's own
-// preparer goes by the writes that ended in the file; a device with a deadline counts those that came back. So that stamp is replaced
-// by the look. What was not read stays mere memory.
-#[tactic(auto, using(disk_preparer::specs::Beside::a_read_beside_says))]
-pub(crate) fn behind(memory: BlockMemory, beside: Beside) -> BlockMemory
-    requires { had_come_back beside.disk beside.writes }
-    ensures { result.bytes ≡ memory.bytes }
-{
-    match memory.beside {
-        Some(read) if read.disk.is(beside.disk) && read.first == beside.first => {
-            BlockMemory::read(memory.bytes, beside)
+impl<P: Preparer> Asked for PreparerErrand<P> {
+    ghost serial = { λ f. f.2 };
+
+    fn serial(&self) -> u64 {
+        self.serial
+    }
+
+    fn call(&self) -> Call {
+        match self.wanted {
+            PreparerCall::Flush => Call::Flush,
+            PreparerCall::Fetch(..) | PreparerCall::FetchEdges(..) | PreparerCall::Read(..) => {
+                Call::Read
+            }
         }
-        _ => BlockMemory::fresh(memory.bytes),
     }
 }
 
@@ -120,6 +135,28 @@ pub(crate) struct PreparerRunner<R: Wait + Clock + Drop, P: Preparer> {
     // Whether there is something to read ahead behind the answer.
     has_more: bool,
     ghost of_disk: { P.disk (arc_value preparer) ≡ disk },
+    ghost watched: { (arc_value watch).node ≡ disk },
+}
+
+// Reads blocks by a preparer beside the device, behind such a look at how many of its writes had come back. The stamp of the file's own
+// preparer goes by the writes that ended in the file; a device with a deadline counts those that came back. So that stamp is replaced by
+// the look. What was not read stays mere memory.
+#[tactic(auto, using(crate::specs::Back::a_read_behind_a_look_says))]
+fn read_behind<P: Preparer>(
+    preparer: &P,
+    beside: Beside,
+    bytes: Vec<u8>,
+    is_looked_at: bool,
+) -> Option<BlockMemory>
+    requires { had_come_back beside.disk beside.writes }
+{
+    let memory = preparer.read(beside.first, bytes, is_looked_at)?;
+    match memory.beside {
+        Some(read) if memory.holds(beside.disk, beside.first, read.writes) => {
+            Some(BlockMemory::read(memory.bytes, beside))
+        }
+        _ => Some(BlockMemory::fresh(memory.bytes)),
+    }
 }
 
 // The first block of what is read.
@@ -140,7 +177,8 @@ impl<R: Wait + Clock + Drop, P: Preparer> PreparerRunner<R, P> {
         watch: Arc<Watch, Global>,
         ahead: Arc<Ahead, Global>,
     ) -> Result<PreparerRunner<R, P>, AllocError>
-        requires { P.disk (arc_value preparer) ≡ disk }
+        requires disk { P.disk (arc_value preparer) ≡ disk }
+        requires watched { (arc_value watch).node ≡ disk }
     {
         Ok(PreparerRunner {
             rt,
@@ -226,15 +264,15 @@ impl<R: Wait + Clock + Drop, P: Preparer> PreparerRunner<R, P> {
         let Some((place, bytes)) = self.ahead.begin(BLOCK_LENGTH * usize::from(hint.blocks)) else {
             return false;
         };
-        let (disk, writes) = (self.disk, self.watch.writes(self.disk));
+        let (disk, writes) = (self.disk, self.watch.writes());
         let beside = Beside {
             disk,
             first: hint.first,
             writes,
         };
-        match self.preparer.read(hint.first, bytes, is_looked_at) {
+        match read_behind(&*self.preparer, beside, bytes, is_looked_at) {
             Some(memory) => {
-                self.ahead.end(place, hint.first, behind(memory, beside));
+                self.ahead.end(place, hint.first, memory);
                 true
             }
             None => false,
@@ -264,6 +302,16 @@ impl<R: Wait + Clock + Drop, P: Preparer> PreparerRunner<R, P> {
         }
     }
 
+    // Flushes, and tells the watch that a flush has come back.
+    fn flush(&self) -> bool
+        ensures { IsTrue result → P.has_flushed self.now.disk }
+    {
+        let written = self.watch.written();
+        let is_flushed = self.preparer.flush();
+        self.watch.flush_came_back(is_flushed, written);
+        is_flushed
+    }
+
     // Does what is wanted, but for a read, which has memory: whether a flush was done.
     fn does(&self, wanted: PreparerCall) -> bool
         ensures { IsTrue result → P.has_flushed self.now.disk }
@@ -271,7 +319,7 @@ impl<R: Wait + Clock + Drop, P: Preparer> PreparerRunner<R, P> {
         match wanted {
             PreparerCall::Fetch(first, blocks) => self.preparer.fetch(first, blocks),
             PreparerCall::FetchEdges(first, blocks) => self.preparer.fetch_edges(first, blocks),
-            PreparerCall::Flush => return self.preparer.flush(),
+            PreparerCall::Flush => return self.flush(),
             PreparerCall::Read(..) => {}
         }
         false
@@ -280,7 +328,7 @@ impl<R: Wait + Clock + Drop, P: Preparer> PreparerRunner<R, P> {
 
 impl<R: Wait + Clock + Drop, P: Preparer> Runner<PreparerErrand<P>> for PreparerRunner<R, P> {
     fn run(&mut self, errand: PreparerErrand<P>) -> PreparerErrand<P> {
-        let wanted = errand.wanted;
+        let (serial, wanted) = (errand.serial, errand.wanted);
         let is_at_work = self.listen(wanted);
         let memory = match (wanted, errand.memory) {
             (PreparerCall::Read(first, is_looked_at), Some(memory)) => {
@@ -295,6 +343,7 @@ impl<R: Wait + Clock + Drop, P: Preparer> Runner<PreparerErrand<P>> for Preparer
             self.ahead.end_work();
         }
         PreparerErrand {
+            serial,
             wanted,
             disk: self.disk,
             is_flushed,

@@ -19,11 +19,11 @@ ended writes = true
 pub lasts : Node → ℕ → Type 0
 lasts node writes = Unit {0}
 
--- a file was given this name
+-- a file has this name: it was given to it, or opened by it
 pub is_named : {S : Type 0} → S → Type 0
 is_named name = Unit {0}
 
--- a flush of a folder ended well that began when a file had been given this name
+-- a flush of a folder ended well that began when a file had this name
 pub name_lasts : {S : Type 0} → S → S → Type 0
 name_lasts folder name = Unit {0}
 
@@ -52,6 +52,10 @@ a_flush_says node writes = tt
 pub a_rename_says : {S : Type 0} (name : S) → is_named name
 unfolding is_named
 a_rename_says name = tt
+
+pub an_open_says : {S : Type 0} (name : S) → is_named name
+unfolding is_named
+an_open_says name = tt
 
 pub a_flush_of_a_folder_says : {S : Type 0} (folder name : S) → name_lasts folder name
 unfolding name_lasts

@@ -12,6 +12,7 @@ ghost use Rattle.disk_files.specs.BackingLaws.{as_many, as_wide, lies_before};
 ghost use Rattle.disk_files.specs.Tally.{none, all_failures, once_more_opened};
 ghost use Rattle.disk_files.specs.Lasting.{IsSettled};
 ghost use Rattle.disk_files.specs.Lengths.{IsLengthFault};
+ghost use Rattle.disk_files.specs.System.{is_named};
 ghost use Rattle.disk_files.specs.Told.{has_told};
 ghost use Rattle.disk_files.specs.Beside.{WereRead};
 ghost use Rattle.disk_preparer.specs.Beside.{was_read};
@@ -114,12 +115,29 @@ impl<F: BackingFile> FileBlocks<F> {
         }
     }
 
+    // Tells that a call of this kind has gone well.
+    pub(crate) fn tell_well(&self, call: Call) {
+        if let Some(file_log) = &self.file_log {
+            file_log.works(call);
+        }
+    }
+
+    // Tells that so many bytes from this block on were read.
+    fn tell_read(&self, first: u32, bytes: usize) {
+        if let Some(file_log) = &self.file_log {
+            file_log.has_read(first, bytes / BLOCK_LENGTH);
+        }
+    }
+
     // Whether the file still has so many blocks; else the error of the system, 0 where it has become shorter. That it has become
     // longer is told.
     fn still_reaches(&self) -> Result<(), u32> {
         let is_longer = reaches(&self.file, self.count)?;
-        if let (true, Some(file_log)) = (is_longer, &self.file_log) {
-            file_log.tell_longer();
+        if let Some(file_log) = &self.file_log {
+            file_log.works(Call::Seek);
+            if is_longer {
+                file_log.tell_longer();
+            }
         }
         Ok(())
     }
@@ -180,7 +198,10 @@ impl<F: BackingFile> FileBlocks<F> {
         match self.file.flush(self.writes.count) {
             // One that ran beside it may have had its blocks in hand.
             Ok(()) if self.is_lost_beside() => Err(DeviceFailed),
-            Ok(()) => Ok(()),
+            Ok(()) => {
+                self.tell_well(Call::Write);
+                Ok(())
+            }
             Err(error) => {
                 self.tell(Call::Flush, 0, 0, error);
                 Err(DeviceFailed)
@@ -211,6 +232,7 @@ impl<F: LastingFile> FileBlocks<F> {
         }
         self.file = file;
         self.tally.opened = self.tally.opened.saturating_add(1);
+        self.tell_well(Call::Open);
         Ok(())
     }
 
@@ -239,7 +261,8 @@ impl FileBlocks<SystemFile> {
         rt: &R,
         path: &str,
     ) -> Result<FileBlocks<SystemFile>, FileFault>
-        ensures { IfOk result (λ d. d.tally ≡ none) }
+        ensures none { IfOk result (λ d. d.tally ≡ none) }
+        ensures named { OnOk result (is_named path.now) }
     {
         match SystemFile::open(rt, path) {
             Ok(file) => FileBlocks::of(file),
@@ -314,7 +337,10 @@ impl<F: BackingFile> Blocks for FileBlocks<F> {
         ensures written { self.new.writes.count ≡ self.old.writes.count }
     {
         match self.file.read_at(bytes, at(first)) {
-            Ok(()) => Ok(()),
+            Ok(()) => {
+                self.tell_read(first, bytes.len());
+                Ok(())
+            }
             Err(error) => {
                 self.tell(Call::Read, first, bytes.len(), error);
                 failed(&mut self.tally.failed_reads)
@@ -341,6 +367,7 @@ impl<F: BackingFile> Blocks for FileBlocks<F> {
         ensures written { self.new.writes.count ≡ self.old.writes.count }
     {
         if self.flushes.is_some() && self.holds_now(first, &memory) {
+            self.tell_read(first, memory.bytes.len());
             return Ok(memory.bytes);
         }
         let mut bytes = memory.bytes;

@@ -1,9 +1,9 @@
-//! What tells the log of a file of a unit: of its calls that failed, and once that it became longer.
+//! What tells the log of a file of a unit: of its calls that failed, of what goes well behind these, and once that it became longer.
 
 use event_log::{Call, Event, Log, Part, Place};
 use std::sync::atomic::{AtomicBool, Ordering};
 
-/// Tells the log of calls that failed on a file of a unit, and once that the file became longer.
+/// Tells the log of calls that failed on a file of a unit, of what goes well behind these, and once that the file became longer.
 pub struct FileLog {
     log: Log,
     unit: u8,
@@ -39,6 +39,29 @@ impl FileLog {
         let count = u32::try_from(blocks).unwrap_or(u32::MAX);
         let place = Place { first, count };
         self.log.note(&Event::DeviceFailed(self.unit, self.part, call, place, error));
+    }
+
+    /// A call of this kind has gone well: what of it had failed is over.
+    pub fn works(&self, call: Call) {
+        let failed = self.log.failed(self.unit, self.part, call);
+        self.log.end(self.unit, self.part, call, failed);
+    }
+
+    /// How many writes have failed.
+    pub fn failed_writes(&self) -> u64 {
+        self.log.failed(self.unit, self.part, Call::Write)
+    }
+
+    /// A flush that began when so many writes had failed has gone well: they are over.
+    pub fn flushed(&self, failed_writes: u64) {
+        self.log
+            .end(self.unit, self.part, Call::Write, failed_writes);
+    }
+
+    /// So many blocks were read from the first on.
+    pub fn has_read(&self, first: u32, blocks: usize) {
+        let count = u32::try_from(blocks).unwrap_or(u32::MAX);
+        self.log.read(self.unit, self.part, Place { first, count });
     }
 
     /// Tells that the file has become longer, the first time.

@@ -8,11 +8,13 @@ ghost use Rattle.disk_files.specs.Told.{HasFlushed, were_told};
 
 use crate::FileBlocks;
 use crate::backing::BackingFile;
+use crate::backlog::Backlog;
 use crate::file_log::FileLog;
 use crate::flushes::{FlushFault, Flushes, LastingFile};
+use crate::kernel_limits::free_to_write;
 use crate::system::SystemFile;
 use block_file::BLOCK_LENGTH;
-use disk_preparer::{Beside, BlockMemory, Node, PAGE_BLOCKS, Preparer};
+use disk_preparer::{Account, Beside, BlockMemory, Node, PAGE_BLOCKS, Preparer};
 use event_log::Call;
 use libc::{POSIX_FADV_WILLNEED, posix_fadvise};
 use std::alloc::Global;
@@ -22,6 +24,7 @@ use std::os::unix::fs::FileExt;
 use std::rt::Files;
 use std::sync::atomic::{AtomicU64, Ordering};
 use std::sync::{Arc, Mutex, Wait};
+use std::thread;
 use std::time::{Clock, Duration};
 
 /// So many bytes are read at a time and thrown away: of a disk that counts as fast, which has no more looked at; of a run that has no
@@ -56,6 +59,17 @@ const MORE: u64 = 64;
 /// reads and writes hides the reads.
 const LOOKED_AT: u64 = 61;
 
+/// Who waits for a flush to be due looks after so many milliseconds how much may be unflushed; and who waits for room, whether there is
+/// some, so often at most.
+const NOW_AND_THEN: u64 = 1000;
+
+const A_WHILE: u64 = 5;
+
+const WHILES: u32 = 4096;
+
+/// A wait of so many microseconds is counted.
+const WAITED: u64 = 500;
+
 /// A file as its preparer has it: through handles of its own, so that it waits beside the device.
 ///
 /// While the disk counts as fast, as where the system has the file in memory, it only looks now and then whether a read takes time.
@@ -73,6 +87,9 @@ pub struct FilePreparer<R: Clock + Wait + Drop, F: LastingFile> {
     slow: AtomicU64,
     // The serial of the WRITE that came last, of whatever session.
     last: AtomicU64,
+    // What was written and is not flushed, and how much the kernel let be when the file was opened.
+    backlog: Backlog,
+    free: u64,
     ghost own: { IfSome file (λ f. f.node ≡ node) } by { Prim.hlevel props },
 }
 
@@ -86,6 +103,8 @@ impl<R: Clock + Wait + Drop, F: LastingFile + Drop> Drop for FilePreparer<R, F> 
             flushes: _,
             slow: _,
             last: _,
+            backlog: _,
+            free: _,
         } = self;
     }
 }
@@ -108,6 +127,7 @@ impl<R: Clock + Wait + Files<File = File> + Drop> FilePreparer<R, SystemFile> {
         let node = blocks.node();
         let file = again(&rt, path, node);
         let flushes = shared(alloc, &rt, path, blocks);
+        let free = free_to_write(&rt);
         FilePreparer {
             rt,
             node,
@@ -116,6 +136,8 @@ impl<R: Clock + Wait + Files<File = File> + Drop> FilePreparer<R, SystemFile> {
             flushes,
             slow: AtomicU64::new(0),
             last: AtomicU64::new(0),
+            backlog: Backlog::new(free),
+            free,
         }
     }
 }
@@ -190,10 +212,63 @@ impl<R: Clock + Wait + Drop, F: LastingFile> FilePreparer<R, F> {
         }
     }
 
+    // How many writes have failed.
+    fn failed_writes(&self) -> u64 {
+        match &self.file_log {
+            Some(file_log) => file_log.failed_writes(),
+            None => 0,
+        }
+    }
+
+    // Tells that a flush which began when so many writes had failed has gone well.
+    fn tell_flushed(&self, failed_writes: u64) {
+        if let Some(file_log) = &self.file_log {
+            file_log.flushed(failed_writes);
+        }
+    }
+
     // Tells that a flush failed, once.
     fn tell(&self, fault: FlushFault) {
         if let (Some(file_log), FlushFault::Failed(error)) = (&self.file_log, fault) {
             file_log.tell(Call::Flush, 0, 0, error);
+        }
+    }
+
+    // The time of the clock that never goes back, in microseconds; none where it cannot be read.
+    fn micros(&self) -> Option<u64> {
+        u64::try_from(self.rt.monotonic().ok()?.as_micros()).ok()
+    }
+
+    // Waits for room for what a session writes, until this time at most, and not where nothing is flushed any more.
+    fn await_room(&self, flushes: &Flushes<F>, is_heavy: bool, end: u64) {
+        for _ in 0..WHILES {
+            if self.backlog.has_room(is_heavy) || flushes.is_lost() {
+                return;
+            }
+            match self.micros() {
+                Some(now) if now < end => thread::sleep(&self.rt, Duration::from_millis(A_WHILE)),
+                _ => return,
+            }
+        }
+    }
+
+    // Has a session wait before a write of so many bytes: for its turn, where it has its share of what is not flushed, and for room.
+    fn pace(&self, flushes: &Flushes<F>, bytes: u64, account: &mut Account, patience: Duration) {
+        let Some(begun) = self.micros() else {
+            return;
+        };
+        let is_heavy = self.backlog.is_heavy(account);
+        if is_heavy {
+            let turn = Duration::from_micros(self.backlog.turn(bytes, account, begun));
+            if !turn.is_zero() {
+                thread::sleep(&self.rt, turn.min(patience));
+            }
+        }
+        let patience = u64::try_from(patience.as_micros()).unwrap_or(u64::MAX);
+        self.await_room(flushes, is_heavy, begun.saturating_add(patience));
+        let waited = self.micros().unwrap_or(begun).saturating_sub(begun);
+        if waited >= WAITED {
+            self.backlog.waited(waited);
         }
     }
 
@@ -429,12 +504,52 @@ impl<R: Clock + Wait + Drop, F: LastingFile> Preparer for FilePreparer<R, F> {
         let Some(flushes) = &self.flushes else {
             return false;
         };
-        match flushes.flush(&self.rt, self.node) {
-            Ok(()) => true,
+        let failed_writes = self.failed_writes();
+        let begun = self.backlog.begin(self.micros().unwrap_or(0));
+        let end = flushes.flush(&self.rt, self.node);
+        self.backlog
+            .end(begun, self.micros().unwrap_or(0), end.is_ok());
+        match end {
+            Ok(()) => {
+                self.tell_flushed(failed_writes);
+                true
+            }
             Err(fault) => {
                 self.tell(fault);
                 false
             }
         }
+    }
+
+    fn let_in(&self, bytes: u64, account: &mut Account, patience: Duration) {
+        let Some(flushes) = &self.flushes else {
+            return;
+        };
+        if self.backlog.enter(bytes, account) && !flushes.is_lost() {
+            self.pace(flushes, bytes, account, patience);
+        }
+    }
+
+    fn await_flush(&self, among: u64) -> bool {
+        let Some(flushes) = &self.flushes else {
+            return false;
+        };
+        for _ in self.rt.forever() {
+            self.backlog.bind(self.free, among);
+            let is_due = self
+                .backlog
+                .await_due(&self.rt, Duration::from_millis(NOW_AND_THEN));
+            if self.backlog.is_closed() {
+                return false;
+            }
+            if is_due && !flushes.is_lost() {
+                return true;
+            }
+        }
+        unreachable!()
+    }
+
+    fn close(&self) {
+        self.backlog.close();
     }
 }

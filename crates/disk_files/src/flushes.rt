@@ -7,7 +7,7 @@ use crate::backing::{BackingFile, Counted};
 use disk_preparer::Node;
 use std::marker::{Model, PhantomData};
 use std::sync::atomic::{AtomicBool, AtomicIn, AtomicUsize, Ordering, Rule};
-use std::sync::{Mutex, Wait};
+use std::sync::{Mutex, MutexGuard, Wait};
 
 /// A file of which threads may flush several handles at one time. What one of them has made last is not seen in the others, so
 /// its type claims nothing.
@@ -160,16 +160,31 @@ impl<F: BackingFile> Flushes<F> {
 }
 
 impl<F: LastingFile> Flushes<F> {
+    // The handle whose turn it is, or one that is free where that is not; none where there is none.
+    fn handle<'a, R: Wait>(&'a self, rt: &R) -> Option<MutexGuard<'a, F>> {
+        if self.handles.is_empty() {
+            return None;
+        }
+        let turn = self.turns.fetch_add(1, Ordering::Relaxed) % self.handles.len();
+        if let Some(free) = self.handles[turn].try_lock() {
+            return Some(free);
+        }
+        for handle in &self.handles {
+            if let Some(free) = handle.try_lock() {
+                return Some(free);
+            }
+        }
+        Some(self.handles[turn].lock(rt))
+    }
+
     /// Makes last what the writes of this file left that have ended by now. A failure is remembered, and told by each later flush.
     pub fn flush<R: Wait>(&self, rt: &R, node: Node) -> Result<(), FlushFault>
         ensures { OnOk result (HasFlushed node (F.lasts node)) }
     {
-        if self.handles.is_empty() {
-            return Err(FlushFault::Lost);
-        }
         let wanted = self.look(node);
-        let turn = self.turns.fetch_add(1, Ordering::Relaxed) % self.handles.len();
-        let handle = self.handles[turn].lock(rt);
+        let Some(handle) = self.handle(rt) else {
+            return Err(FlushFault::Lost);
+        };
         // One that failed by this handle was told of it, and the system tells no other.
         if self.is_lost() {
             return Err(FlushFault::Lost);

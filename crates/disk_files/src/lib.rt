@@ -4,12 +4,15 @@
 #![tactic(auto)]
 
 mod backing;
+mod backlog;
+mod beside;
 mod blocks;
 mod disk;
 mod fault;
 mod file_log;
 mod file_preparer;
 mod flushes;
+mod kernel_limits;
 pub mod laws;
 mod named;
 mod node;
@@ -17,9 +20,11 @@ mod opener;
 mod registrations;
 mod system;
 mod tally;
+mod unit_file;
 mod writes;
 
 pub use backing::{BackingFile, Counted};
+pub use backlog::{Backlog, Begun};
 pub use blocks::{FileBlocks, blocks_in};
 pub use disk::{Disk, DiskLock, open_disk};
 pub use fault::{DiskFault, FileFault, RegistrationsFault};
@@ -31,4 +36,5 @@ pub use opener::FileOpener;
 pub use registrations::{Registrations, open_registrations};
 pub use system::{SystemFile, give_name, make_name_last};
 pub use tally::Tally;
+pub use unit_file::{UnitFileFault, UnitName, open_as};
 pub use writes::Writes;

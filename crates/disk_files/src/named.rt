@@ -72,7 +72,9 @@ impl<R: Files<File = File> + Drop> NamedBlocks<R> {
                     number: found.ino(),
                 };
                 let is_named = found.is(self.node);
-                if !is_named {
+                if is_named {
+                    self.blocks.tell_well(Call::Open);
+                } else {
                     self.blocks.tell(Call::Open, 0, 0, 0);
                 }
                 is_named

@@ -1,7 +1,8 @@
 //! The registration file of a unit.
 ghost use Rattle.std.specs.Prelude.{◌≡◌, IfOk, OnOk};
-ghost use Rattle.disk_files.specs.System.{name_lasts};
+ghost use Rattle.disk_files.specs.System.{is_named, name_lasts};
 
+use crate::beside::{NotBegun, begun, folder_of, joined};
 use crate::system::{give_name, make_name_last, number_of};
 use crate::{
     DiskFault, DiskLock, FileBlocks, FileFault, FileLog, NamedBlocks, RegistrationsFault,
@@ -10,8 +11,8 @@ use crate::{
 use aptpl_file::{FILE_BLOCKS, OpenFault, RegFile};
 use block_file::{BLOCK_LENGTH, Blocks};
 use registrants::Record;
-use std::alloc::{AllocError, Global};
-use std::fs::{self, File, OpenFile};
+use std::alloc::Global;
+use std::fs::{self, File};
 use std::os::unix::fs::MetadataExt;
 use std::rt::Files;
 
@@ -37,7 +38,7 @@ pub fn open_registrations<R: Files<File = File> + Drop>(
     let Ok(path) = joined(alloc, disk, ".reg") else {
         return Err(RegistrationsFault::NoMemory);
     };
-    let mut blocks = match opened_or_made(&rt, alloc, path.as_str()) {
+    let mut blocks = match opened_or_made(&rt, alloc, folder_of(path.as_str()), path.as_str()) {
         Ok(blocks) => blocks,
         Err(fault) => return Err(fault),
     };
@@ -109,72 +110,79 @@ fn device_of<R: Files<File = File>>(rt: &R, folder: &str) -> Option<u64> {
     }
 }
 
-// A name with this behind it.
-fn joined(alloc: Global, name: &str, end: &str) -> Result<String, AllocError> {
-    let mut path = String::from_str(alloc, name)?;
-    path.push_str(end)?;
-    Ok(path)
-}
-
 // The file's blocks, where it is there, or else of one that was made. A link to a file that is not there is left as it is: what it leads
-// to may be there later, with the registrations of before.
+// to may be there later, with the registrations of before. The name lasts: a stop may have come between the making of the file and the
+// flush of its folder.
 fn opened_or_made<R: Files<File = File>>(
     rt: &R,
     alloc: Global,
+    folder: &str,
     path: &str,
-) -> Result<FileBlocks<SystemFile>, RegistrationsFault> {
+) -> Result<FileBlocks<SystemFile>, RegistrationsFault>
+    ensures { OnOk result (name_lasts folder.now path.now) }
+{
     match FileBlocks::open(rt, path) {
-        Ok(blocks) => return Ok(blocks),
+        Ok(blocks) => return lasting(rt, folder, path, blocks),
         Err(FileFault::NotThere) => {}
         Err(fault) => return Err(RegistrationsFault::File(fault)),
     }
     if fs::symlink_metadata(rt, path).is_ok() {
         return Err(RegistrationsFault::File(FileFault::NotThere));
     }
-    let Ok(new) = joined(alloc, path, ".new") else {
-        return Err(RegistrationsFault::NoMemory);
-    };
-    if let Err(error) = made(rt, folder_of(path), path, new.as_str()) {
-        return Err(RegistrationsFault::NotMade(error));
-    }
+    made(rt, alloc, path)?;
     match FileBlocks::open(rt, path) {
-        Ok(blocks) => Ok(blocks),
+        Ok(blocks) => lasting(rt, folder, path, blocks),
         Err(fault) => Err(RegistrationsFault::File(fault)),
     }
 }
 
-// Makes a registration file of nothing in a folder under another name, and gives it its own when it is whole, so that a stop leaves
-// none or a whole one. That it has this name lasts. Else the error of the system.
-fn made<R: Files<File = File>>(rt: &R, folder: &str, path: &str, new: &str) -> Result<(), u32>
+// The blocks of the file that has this name in a folder, once the name lasts.
+fn lasting<R: Files<File = File>>(
+    rt: &R,
+    folder: &str,
+    path: &str,
+    blocks: FileBlocks<SystemFile>,
+) -> Result<FileBlocks<SystemFile>, RegistrationsFault>
+    requires { is_named path.now }
     ensures { OnOk result (name_lasts folder.now path.now) }
 {
-    let file = begun(rt, new)?;
-    if !is_formatted(file) {
-        return Err(0);
-    }
-    give_name(rt, new, path)?;
-    if make_name_last(rt, folder, path) {
-        Ok(())
-    } else {
-        Err(0)
+    match make_name_last(rt, folder, path) {
+        Ok(()) => Ok(blocks),
+        Err(error) => Err(RegistrationsFault::NotMade(error)),
     }
 }
 
-// A file of zeros under this name, in place of what an earlier stop may have left there.
-fn begun<R: Files<File = File>>(rt: &R, new: &str) -> Result<File, u32> {
-    let opened = File::options()
-        .read(true)
-        .write(true)
-        .create(true)
-        .truncate(true)
-        .open(rt, new);
-    match opened {
-        Ok(file) => match file.set_len(BLOCK_LENGTH as u64 * u64::from(FILE_BLOCKS)) {
-            Ok(()) => Ok(file),
-            Err(e) => Err(number_of(&e)),
-        },
-        Err(e) => Err(number_of(&e)),
+// Makes a registration file of nothing under another name, and gives it its own when it is whole, so that a stop leaves none or a whole
+// one.
+fn made<R: Files<File = File>>(
+    rt: &R,
+    alloc: Global,
+    path: &str,
+) -> Result<(), RegistrationsFault> {
+    let (file, new) = match begun(rt, alloc, path) {
+        Ok(begun) => begun,
+        Err(NotBegun::NoMemory) => return Err(RegistrationsFault::NoMemory),
+        Err(NotBegun::System(error)) => return Err(RegistrationsFault::NotMade(error)),
+    };
+    match named(rt, file, new.as_str(), path) {
+        Ok(()) => Ok(()),
+        Err(error) => {
+            let _ = fs::remove_file(rt, new.as_str());
+            Err(RegistrationsFault::NotMade(error))
+        }
     }
+}
+
+// Writes a registration file of nothing into an empty file, and gives it this path; else the error of the system.
+fn named<R: Files<File = File>>(rt: &R, file: File, new: &str, path: &str) -> Result<(), u32> {
+    match file.set_len(BLOCK_LENGTH as u64 * u64::from(FILE_BLOCKS)) {
+        Ok(()) => {}
+        Err(e) => return Err(number_of(&e)),
+    }
+    if !is_formatted(file) {
+        return Err(0);
+    }
+    give_name(rt, new, path)
 }
 
 // Whether a registration file of nothing was written there.
@@ -211,13 +219,4 @@ fn is_filled<B: Blocks>(blocks: &mut B) -> bool {
         }
     }
     blocks.flush().is_ok()
-}
-
-// The folder of a file.
-fn folder_of(path: &str) -> &str {
-    match path.rsplit_once('/') {
-        Some(("", _)) => "/",
-        Some((folder, _)) => folder,
-        None => ".",
-    }
 }

@@ -2,7 +2,7 @@
 //!
 //! What is said of these calls over the program's own type is said here alone: no other proof opens the words of `specs/System`. That each
 //! is the call of the system that it says, by its offset and its bytes, no contract can show. Tests call each.
-ghost use Rattle.std.specs.Prelude.{false, [], refl, IsTrue, OnOk};
+ghost use Rattle.std.specs.Prelude.{false, [], refl, OnOk};
 ghost use Rattle.disk_files.specs.System.{has_read, has_written, ended, lasts, is_named, name_lasts, none_has_ended};
 
 use crate::backing::{BackingFile, Counted};
@@ -38,7 +38,10 @@ impl SystemFile {
     }
 
     /// Opens the file of this name for reading and writing.
-    pub fn open<R: Files<File = File>>(rt: &R, path: &str) -> Result<SystemFile, FileFault> {
+    #[tactic(auto, using(crate::specs::System::an_open_says))]
+    pub fn open<R: Files<File = File>>(rt: &R, path: &str) -> Result<SystemFile, FileFault>
+        ensures { OnOk result (is_named path.now) }
+    {
         match File::options().read(true).write(true).open(rt, path) {
             Ok(handle) => SystemFile::of(handle).ok_or(FileFault::NotOpened(0)),
             Err(e) if e.kind() == ErrorKind::NotFound => Err(FileFault::NotThere),
@@ -139,22 +142,25 @@ pub fn give_name<R: Files<File = File>>(rt: &R, from: &str, name: &str) -> Resul
 
 // Has the system flush a folder by a handle, in which a file has this name.
 #[tactic(auto, using(crate::specs::System::a_flush_of_a_folder_says))]
-fn sync_name(handle: &File, folder: &str, name: &str) -> bool
+fn sync_name(handle: &File, folder: &str, name: &str) -> Result<(), u32>
     requires { is_named name.now }
-    ensures { IsTrue result → name_lasts folder.now name.now }
+    ensures { OnOk result (name_lasts folder.now name.now) }
 {
     let _ = folder;
     let _ = name;
-    handle.sync_all().is_ok()
+    match handle.sync_all() {
+        Ok(()) => Ok(()),
+        Err(e) => Err(number_of(&e)),
+    }
 }
 
-/// Makes the name last that a file was given in a folder.
-pub fn make_name_last<R: Files<File = File>>(rt: &R, folder: &str, name: &str) -> bool
+/// Makes the name last that a file has in a folder; else the error of the system.
+pub fn make_name_last<R: Files<File = File>>(rt: &R, folder: &str, name: &str) -> Result<(), u32>
     requires { is_named name.now }
-    ensures { IsTrue result → name_lasts folder.now name.now }
+    ensures { OnOk result (name_lasts folder.now name.now) }
 {
     match File::open(rt, folder) {
         Ok(handle) => sync_name(&handle, folder, name),
-        Err(_) => false,
+        Err(e) => Err(number_of(&e)),
     }
 }

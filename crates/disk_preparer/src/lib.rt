@@ -9,9 +9,12 @@
 
 ghost use Rattle.std.specs.Prelude.{◌≡◌, Bool, IfSome, IsTrue, false, length};
 
+mod account;
 mod memory;
 
+pub use account::Account;
 pub use memory::{Beside, BlockMemory};
+use std::time::Duration;
 
 /// The system keeps pages of so many blocks of 512 bytes in memory.
 pub const PAGE_BLOCKS: u64 = 8;
@@ -89,4 +92,16 @@ pub trait Preparer: Drop {
     /// Makes all last that was written until now. False: this flush has failed, or one before it.
     fn flush(&self) -> bool
         ensures { IsTrue result → has_flushed (disk self.now) };
+
+    /// A session with this account writes so many bytes next: waits, so long at most, where more is written than the disk flushes and
+    /// this session has its share of that.
+    fn let_in(&self, _bytes: u64, _account: &mut Account, _patience: Duration) {}
+
+    /// Waits until so much was written that it is to be flushed, of a disk that is one among so many. False: it never is any more.
+    fn await_flush(&self, _among: u64) -> bool {
+        false
+    }
+
+    /// Nobody waits for that any more.
+    fn close(&self) {}
 }

@@ -253,6 +253,8 @@ each (events.DeviceFailed unit part call place n) =
     (both _ _ (number place.count) (error n)))))
 each (events.Hung unit part call) =
     both _ _ (number unit) (both _ _ (part_plain part) (both _ _ (call_plain call) refl))
+each (events.Back unit part call time) =
+    both _ _ (number unit) (both _ _ (part_plain part) (both _ _ (call_plain call) (both _ _ (number time) refl)))
 each (events.Grew unit part) = both _ _ (number unit) (both _ _ (part_plain part) refl)
 each (events.NotFlushed unit) = both _ _ (number unit) refl
 each (events.CannotUse unit part disk why n) =

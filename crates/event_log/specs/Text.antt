@@ -173,6 +173,8 @@ parts (events.Busy unit operation who group) = codes "event=busy" ∷ command_in
 parts (events.DeviceFailed unit part call place error) =
     codes "event=device_failed" ∷ file_in unit part (failed_in call place error)
 parts (events.Hung unit part call) = codes "event=hung" ∷ file_in unit part (codes " call=" ∷ call_text call ∷ [])
+parts (events.Back unit part call time) =
+    codes "event=back" ∷ file_in unit part (codes " call=" ∷ call_text call ∷ codes " ms=" ∷ decimal time ∷ [])
 parts (events.Grew unit part) = codes "event=grew" ∷ file_in unit part []
 parts (events.NotFlushed unit) = codes "event=not_flushed unit=" ∷ decimal unit ∷ []
 parts (events.CannotUse unit part disk why error) =

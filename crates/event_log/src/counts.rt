@@ -13,12 +13,12 @@ pub const KEYS: usize = 16;
 const MEDIUM_ERROR: u8 = 3;
 
 /// The longest times of the buckets of times, in microseconds. What took longer is in one more bucket.
-pub const BOUNDS: [u64; 12] = [
-    50, 100, 250, 500, 1000, 2500, 10000, 50000, 250000, 1000000, 2500000, 10000000,
+pub const BOUNDS: [u64; 14] = [
+    10, 20, 50, 100, 250, 500, 1000, 2500, 10000, 50000, 250000, 1000000, 2500000, 10000000,
 ];
 
 /// How many buckets of times there are.
-pub const BUCKETS: usize = 13;
+pub const BUCKETS: usize = 15;
 
 /// How a command ended (SAM-5, 5.3.1).
 #[derive(Clone, Copy)]
@@ -90,7 +90,7 @@ pub const IN_ORDER: [Operation; OPERATIONS] = [
 
 // The bucket of a time.
 fn bucket_of(micros: u64) -> usize
-    ensures { result ≤ 12 }
+    ensures { result ≤ 14 }
 {
     BOUNDS.partition_point(|bound| *bound < micros)
 }

@@ -83,8 +83,10 @@ pub enum Event<'a> {
     Busy(u8, Operation, Initiator<'a>, u16),
     /// A call on a unit's file failed, at these blocks, with this error of the system, 0 where it told none.
     DeviceFailed(u8, Part, Call, Place, u32),
-    /// A call on a unit's file took longer than the deadline. No call on it is made any more.
+    /// A call on a unit's file took longer than the deadline. No call on it is made until that one has come back.
     Hung(u8, Part, Call),
+    /// All such calls have come back, the last of them by this one, and the file is served again: how many milliseconds it was not.
+    Back(u8, Part, Call, u64),
     /// A unit's file became longer while it was served.
     Grew(u8, Part),
     /// A unit's blocks could not be flushed when the array stopped.

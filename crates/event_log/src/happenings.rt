@@ -1,11 +1,10 @@
-//! What is counted of events.
+//! What is counted of events. Whoever tells one counts it at once, and no reader keeps it from that.
 
-use crate::counts::raise;
-use crate::event::Event;
+use crate::event::{Event, Place};
+use crate::failures::{Failures, Tally};
 use crate::words::{Call, Cause, Part};
-
-/// The most units of an array.
-const UNITS: usize = 8;
+use std::alloc::{AllocError, Global};
+use std::sync::atomic::{AtomicU64, Ordering};
 
 /// How many causes of a refused login are told apart.
 pub const CAUSES: usize = 5;
@@ -25,20 +24,51 @@ pub const CALLS_IN_ORDER: [Call; CALLS] = [
     Call::Flush,
 ];
 
-/// What is counted of events.
-#[derive(Clone, Copy)]
+/// No block.
+const NOWHERE: Place = Place { first: 0, count: 0 };
+
+// What is counted of a unit.
+#[derive(Drop)]
+struct OfUnit {
+    // Calls on its disk and on its registration file that failed, by their kinds; and those that took longer than the deadline.
+    disk: Vec<Tally>,
+    registrations: Vec<Tally>,
+    hung: Tally,
+    // How many of the latter have come back.
+    back: AtomicU64,
+    grew: AtomicU64,
+    blocks: AtomicU64,
+}
+
+/// What is counted of events, by whoever tells them.
+#[derive(Drop)]
+pub(crate) struct Ledger {
+    logins: AtomicU64,
+    refused: Vec<AtomicU64>,
+    units: Vec<OfUnit>,
+}
+
+/// What was seen of a unit.
+#[derive(Drop)]
+pub struct UnitHappenings {
+    /// Calls on its disk and on its registration file that failed, in the order of their kinds.
+    pub disk: Vec<Failures>,
+    pub registrations: Vec<Failures>,
+    /// Calls that took longer than the deadline.
+    pub hung: Failures,
+    /// How often a file of it became longer.
+    pub grew: u64,
+    /// How many blocks its disk has.
+    pub blocks: u64,
+}
+
+/// What was seen of events.
+#[derive(Drop)]
 pub struct Happenings {
     /// Logins that were done, and those that were refused, by their causes.
     pub logins: u64,
-    pub refused: [u64; CAUSES],
-    /// Calls that failed on the disks of the units, and on their registration files.
-    pub disks: [[u64; CALLS]; UNITS],
-    pub registrations: [[u64; CALLS]; UNITS],
-    /// Calls on files of the units that took longer than the deadline, and files that became longer.
-    pub hung: [u64; UNITS],
-    pub grew: [u64; UNITS],
-    /// How many blocks the disks of the units have.
-    pub blocks: [u64; UNITS],
+    pub refused: Vec<u64>,
+    pub units: Vec<UnitHappenings>,
 }
 
 // The place of a cause among all.
@@ -63,41 +93,200 @@ fn place_of_call(call: Call) -> usize {
     }
 }
 
-// Counts a call of a unit that failed.
-fn raise_call(counts: &mut [[u64; CALLS]], unit: u8, call: Call) {
-    if let Some(counts) = counts.get_mut(usize::from(unit)) {
-        raise(counts, place_of_call(call));
+// Counts one more.
+fn raise(count: &AtomicU64) {
+    let _ = count.fetch_add(1, Ordering::Relaxed);
+}
+
+// So many numbers.
+fn zeros(alloc: Global, count: usize) -> Result<Vec<AtomicU64>, AllocError> {
+    let mut zeros = Vec::with_capacity(alloc, count)?;
+    for _ in 0..count {
+        zeros.push(AtomicU64::new(0))?;
+    }
+    Ok(zeros)
+}
+
+// No failure of any kind.
+fn unfailed(alloc: Global) -> Result<Vec<Tally>, AllocError> {
+    let mut tallies = Vec::with_capacity(alloc, CALLS)?;
+    for _ in 0..CALLS {
+        tallies.push(Tally::none())?;
+    }
+    Ok(tallies)
+}
+
+// What is seen of calls that failed.
+fn seen_of(alloc: Global, tallies: &[Tally]) -> Result<Vec<Failures>, AllocError> {
+    let mut seen = Vec::with_capacity(alloc, tallies.len())?;
+    for tally in tallies {
+        seen.push(tally.seen())?;
+    }
+    Ok(seen)
+}
+
+impl OfUnit {
+    fn new(alloc: Global) -> Result<OfUnit, AllocError> {
+        Ok(OfUnit {
+            disk: unfailed(alloc)?,
+            registrations: unfailed(alloc)?,
+            hung: Tally::none(),
+            back: AtomicU64::new(0),
+            grew: AtomicU64::new(0),
+            blocks: AtomicU64::new(0),
+        })
+    }
+
+    // Calls on a file of it.
+    fn of(&self, part: Part) -> &[Tally] {
+        match part {
+            Part::Disk => &self.disk,
+            Part::Registrations => &self.registrations,
+        }
+    }
+
+    // A file of it is served again, on which a call had hung: each file tells that once for each time that it told of a hang.
+    fn came_back(&self, now: u64) {
+        let back = self.back.fetch_add(1, Ordering::Relaxed).wrapping_add(1);
+        self.hung.end(now, back);
+    }
+
+    fn seen(&self, alloc: Global) -> Result<UnitHappenings, AllocError> {
+        Ok(UnitHappenings {
+            disk: seen_of(alloc, &self.disk)?,
+            registrations: seen_of(alloc, &self.registrations)?,
+            hung: self.hung.seen(),
+            grew: self.grew.load(Ordering::Relaxed),
+            blocks: self.blocks.load(Ordering::Relaxed),
+        })
     }
 }
 
-impl Happenings {
-    /// Of no event.
-    pub const fn none() -> Happenings {
-        Happenings {
-            logins: 0,
-            refused: [0; CAUSES],
-            disks: [[0; CALLS]; UNITS],
-            registrations: [[0; CALLS]; UNITS],
-            hung: [0; UNITS],
-            grew: [0; UNITS],
-            blocks: [0; UNITS],
+// Ends what an administrator has seen: of each kind but the flushes, the last one, which nothing but a restart makes well.
+fn acknowledge(tallies: &[Tally], now: u64) {
+    for (place, tally) in tallies.iter().enumerate() {
+        if place != place_of_call(Call::Flush) {
+            tally.end(now, tally.count());
+        }
+    }
+}
+
+impl Ledger {
+    /// Of no event, of so many units.
+    pub(crate) fn new(alloc: Global, units: usize) -> Result<Ledger, AllocError> {
+        let mut all = Vec::with_capacity(alloc, units)?;
+        for _ in 0..units {
+            all.push(OfUnit::new(alloc)?)?;
+        }
+        Ok(Ledger {
+            logins: AtomicU64::new(0),
+            refused: zeros(alloc, CAUSES)?,
+            units: all,
+        })
+    }
+
+    // Calls of a kind on a file of a unit that failed.
+    fn tally(&self, unit: u8, part: Part, call: Call) -> Option<&Tally> {
+        self.units
+            .get(usize::from(unit))?
+            .of(part)
+            .get(place_of_call(call))
+    }
+
+    // A login was refused.
+    fn refuse(&self, cause: Cause) {
+        if let Some(count) = self.refused.get(place_of_cause(cause)) {
+            raise(count);
         }
     }
 
-    /// Counts an event.
-    pub fn count(&mut self, event: &Event<'_>) {
+    /// Counts an event, at this time.
+    pub(crate) fn count(&self, now: u64, event: &Event<'_>) {
         match event {
-            Event::LoggedIn(..) => self.logins = self.logins.wrapping_add(1),
-            Event::LoginRefused(_, _, _, cause) => raise(&mut self.refused, place_of_cause(*cause)),
-            Event::DeviceFailed(unit, Part::Disk, call, _, _) => {
-                raise_call(&mut self.disks, *unit, *call);
+            Event::LoggedIn(..) => raise(&self.logins),
+            Event::LoginRefused(_, _, _, cause) => self.refuse(*cause),
+            Event::DeviceFailed(unit, part, call, place, error) => {
+                if let Some(tally) = self.tally(*unit, *part, *call) {
+                    tally.fail(now, *place, *error);
+                }
             }
-            Event::DeviceFailed(unit, Part::Registrations, call, _, _) => {
-                raise_call(&mut self.registrations, *unit, *call);
+            Event::Hung(unit, _, _) => {
+                if let Some(of_unit) = self.units.get(usize::from(*unit)) {
+                    of_unit.hung.fail(now, NOWHERE, 0);
+                }
             }
-            Event::Hung(unit, _, _) => raise(&mut self.hung, usize::from(*unit)),
-            Event::Grew(unit, _) => raise(&mut self.grew, usize::from(*unit)),
+            Event::Back(unit, _, _, _) => {
+                if let Some(of_unit) = self.units.get(usize::from(*unit)) {
+                    of_unit.came_back(now);
+                }
+            }
+            Event::Grew(unit, _) => {
+                if let Some(of_unit) = self.units.get(usize::from(*unit)) {
+                    raise(&of_unit.grew);
+                }
+            }
             _ => {}
         }
+    }
+
+    /// The disk of a unit has so many blocks.
+    pub(crate) fn measured(&self, unit: u8, blocks: u64) {
+        if let Some(of_unit) = self.units.get(usize::from(unit)) {
+            of_unit.blocks.store(blocks, Ordering::Relaxed);
+        }
+    }
+
+    /// How many calls of a kind failed.
+    pub(crate) fn failed(&self, unit: u8, part: Part, call: Call) -> u64 {
+        match self.tally(unit, part, call) {
+            Some(tally) => tally.count(),
+            None => 0,
+        }
+    }
+
+    /// The first so many of them are over.
+    pub(crate) fn end(&self, now: u64, unit: u8, part: Part, call: Call, count: u64) {
+        if count != 0
+            && let Some(tally) = self.tally(unit, part, call)
+        {
+            tally.end(now, count);
+        }
+    }
+
+    /// These blocks were read: where all blocks of the last read that failed are among them, that is over.
+    pub(crate) fn read(&self, now: u64, unit: u8, part: Part, place: Place) {
+        if let Some(tally) = self.tally(unit, part, Call::Read)
+            && tally.is_now()
+        {
+            let count = tally.count();
+            if tally.lies_in(place) {
+                tally.end(now, count);
+            }
+        }
+    }
+
+    /// Ends what an administrator has seen, but for flushes, and calls that hang.
+    pub(crate) fn acknowledge(&self, now: u64) {
+        for of_unit in &self.units {
+            acknowledge(&of_unit.disk, now);
+            acknowledge(&of_unit.registrations, now);
+        }
+    }
+
+    /// What is seen.
+    pub(crate) fn seen(&self, alloc: Global) -> Result<Happenings, AllocError> {
+        let mut refused = Vec::with_capacity(alloc, self.refused.len())?;
+        for count in &self.refused {
+            refused.push(count.load(Ordering::Relaxed))?;
+        }
+        let mut units = Vec::with_capacity(alloc, self.units.len())?;
+        for of_unit in &self.units {
+            units.push(of_unit.seen(alloc)?)?;
+        }
+        Ok(Happenings {
+            logins: self.logins.load(Ordering::Relaxed),
+            refused,
+            units,
+        })
     }
 }

@@ -5,6 +5,7 @@
 
 mod counts;
 mod event;
+mod failures;
 mod happenings;
 pub mod laws;
 mod line;
@@ -12,19 +13,22 @@ mod log;
 mod meters;
 mod spelling;
 mod stamp;
+mod ticks;
 mod words;
 mod writer;
 
 pub use counts::{BOUNDS, BUCKETS, Counts, Ended, IN_ORDER, KEYS, OPERATIONS, Served};
 pub use event::{By, Event, Initiator, Path, Place, Reservation};
-pub use happenings::{CALLS, CALLS_IN_ORDER, CAUSES, CAUSES_IN_ORDER, Happenings};
+pub use failures::Failures;
+pub use happenings::{CALLS, CALLS_IN_ORDER, CAUSES, CAUSES_IN_ORDER, Happenings, UnitHappenings};
 pub use line::{escape, escape_by};
 pub use log::Log;
 pub use meters::{Hand, Meters, Seen, SessionSeen, Visit};
 pub use spelling::spell;
 pub use stamp::Stamp;
+pub use ticks::start_ticks;
 pub use words::{
     Access, Action, Call, Cause, Operation, Part, Resource, Sense, SessionType, Stayed, Unusable,
-    Why,
+    Why, error_text,
 };
 pub use writer::{Page, close, put_line, start};

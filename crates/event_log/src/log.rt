@@ -3,10 +3,11 @@ ghost use Rattle.std.specs.Prelude.{◌≡◌, ◌++◌, codes, if◌then◌else
 ghost use Rattle.std.specs.String.{string_bytes};
 ghost use Rattle.event_log.specs.Text.{text_of};
 
-use crate::event::Event;
+use crate::event::{Event, Place};
 use crate::meters::Meters;
 use crate::spelling::spell;
 use crate::stamp::Stamp;
+use crate::words::{Call, Part};
 use std::alloc::{AllocError, Global};
 use std::hint::spin_loop;
 use std::sync::atomic::{AtomicU64, Ordering};
@@ -171,10 +172,40 @@ impl Log {
         }
     }
 
+    /// A hand more on what is counted, where it is.
+    pub(crate) fn shared_meters(&self) -> Result<Option<Arc<Meters, Global>>, AllocError> {
+        match &self.meters {
+            Some(meters) => Ok(Some(Arc::try_clone(meters)?)),
+            None => Ok(None),
+        }
+    }
+
     // Counts an event, where it is counted.
     fn count(&self, event: &Event<'_>) {
         if let Some(meters) = &self.meters {
             meters.happened(event);
+        }
+    }
+
+    /// How many calls of a kind failed on a file of a unit, where that is counted.
+    pub fn failed(&self, unit: u8, part: Part, call: Call) -> u64 {
+        match &self.meters {
+            Some(meters) => meters.failed(unit, part, call),
+            None => 0,
+        }
+    }
+
+    /// The first so many of them are over, by what went well behind them.
+    pub fn end(&self, unit: u8, part: Part, call: Call, count: u64) {
+        if let Some(meters) = &self.meters {
+            meters.end(unit, part, call, count);
+        }
+    }
+
+    /// These blocks of a file of a unit were read.
+    pub fn read(&self, unit: u8, part: Part, place: Place) {
+        if let Some(meters) = &self.meters {
+            meters.read(unit, part, place);
         }
     }
 

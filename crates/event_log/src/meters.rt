@@ -2,9 +2,9 @@
 //! nobody waits for a reader.
 
 use crate::counts::{Counts, Served};
-use crate::event::{Event, Initiator, Path};
-use crate::happenings::Happenings;
-use crate::words::{Operation, SessionType};
+use crate::event::{Event, Initiator, Path, Place};
+use crate::happenings::{Happenings, Ledger};
+use crate::words::{Call, Operation, Part, SessionType};
 use std::alloc::{AllocError, Global};
 use std::hint::spin_loop;
 use std::sync::atomic::{AtomicU64, Ordering};
@@ -14,8 +14,8 @@ use std::time::{Clock, Duration};
 /// How often is tried to reach what readers may hold.
 const TRIES: u32 = 1000;
 
-/// For each so many commands the clock is looked at, so that a reader sees how long the one lasts that is served.
-const STRIDE: u64 = 8;
+/// What a number of microseconds is multiplied by where a unit stands beside it.
+const UNITS: u64 = 256;
 
 /// Who a session is: its initiator port, by which path it came, its TSIH, what it is for, and since when after the beginning of 1970.
 #[derive(Clone, Drop)]
@@ -63,10 +63,9 @@ struct Shown {
 struct Meter {
     number: u64,
     who: Visit,
-    // When the command began that is served now, in microseconds of the clock that never goes back, and 0 between commands; and
-    // its unit.
-    began: AtomicU64,
-    unit: AtomicU64,
+    // The command that is served now: when it began, in microseconds of the clock that never goes back, times 256, and its unit; 0
+    // between commands.
+    serving: AtomicU64,
     shown: Mutex<Shown>,
 }
 
@@ -84,14 +83,12 @@ struct Sheet {
 #[derive(Drop)]
 pub struct Hand {
     meter: Arc<Meter, Global>,
+    ticks: Arc<AtomicU64, Global>,
     units: Vec<Sheet>,
     last: Option<Operation>,
     is_waiting: bool,
-    // How many commands have begun.
-    begun: u64,
-    // When bytes came last, and when the clock was looked at, in microseconds of the clock that never goes back.
+    // When bytes came last, in microseconds of the clock that never goes back.
     came: u64,
-    now: u64,
 }
 
 // All that live, and what was counted of those that have ended, at each unit by each controller.
@@ -107,7 +104,10 @@ struct Book {
 pub struct Meters {
     units: usize,
     book: Mutex<Book>,
-    happened: Mutex<Happenings>,
+    happened: Ledger,
+    // What the clock said when it was looked at last, in microseconds of the one that never goes back: several times a second, so that
+    // a command that begins, or a call that fails, has a time and no look of its own.
+    ticks: Arc<AtomicU64, Global>,
 }
 
 /// What was seen of a session.
@@ -192,22 +192,18 @@ impl Hand {
     /// Bytes have come.
     pub fn came(&mut self, rt: &impl Clock) {
         self.came = clock(rt);
-        self.now = self.came;
     }
 
-    /// A command of a unit begins.
-    pub fn begin(&mut self, rt: &impl Clock, unit: u8) {
-        self.begun = self.begun.wrapping_add(1);
-        if self.begun % STRIDE == 0 {
-            self.now = clock(rt);
-        }
-        self.meter.unit.store(u64::from(unit), Ordering::Relaxed);
-        self.meter.began.store(self.now, Ordering::Relaxed);
+    /// A command of a unit begins. It may have waited for others that came with it.
+    pub fn begin(&mut self, unit: u8) {
+        let now = self.ticks.load(Ordering::Relaxed).max(self.came);
+        let serving = now.wrapping_mul(UNITS) | u64::from(unit);
+        self.meter.serving.store(serving, Ordering::Relaxed);
     }
 
     /// The command has ended: it was answered, or none was.
     pub fn end(&mut self, unit: u8, served: Option<Served>) {
-        self.meter.began.store(0, Ordering::Relaxed);
+        self.meter.serving.store(0, Ordering::Relaxed);
         if let Some(served) = served
             && let Some(sheet) = self.units.get_mut(usize::from(unit))
         {
@@ -268,10 +264,10 @@ impl Meter {
 
     // Notes for how long its command is served at its unit, where that is the longest.
     fn age(&self, now: u64, oldest: &mut [u64]) {
-        let began = self.began.load(Ordering::Relaxed);
-        let unit = self.unit.load(Ordering::Relaxed);
-        if began != 0
-            && let Some(longest) = oldest.get_mut(usize::try_from(unit).unwrap_or(usize::MAX))
+        let serving = self.serving.load(Ordering::Relaxed);
+        let (began, unit) = (serving / UNITS, serving % UNITS);
+        if serving != 0
+            && let Some(longest) = oldest.get_mut(unit as usize)
         {
             *longest = (*longest).max(now.saturating_sub(began));
         }
@@ -289,24 +285,49 @@ impl Meters {
         Ok(Meters {
             units,
             book: Mutex::new(book),
-            happened: Mutex::new(Happenings::none()),
+            happened: Ledger::new(alloc, units)?,
+            ticks: Arc::new(alloc, AtomicU64::new(0))?,
         })
+    }
+
+    // The time of the last look at the clock.
+    fn now(&self) -> u64 {
+        self.ticks.load(Ordering::Relaxed)
+    }
+
+    /// Looks at the clock.
+    pub fn tick(&self, rt: &impl Clock) {
+        self.ticks.store(clock(rt), Ordering::Relaxed);
     }
 
     /// The disk of a unit has so many blocks.
     pub fn measured(&self, unit: u8, blocks: u64) {
-        if let Some(mut happened) = reach(&self.happened)
-            && let Some(known) = happened.blocks.get_mut(usize::from(unit))
-        {
-            *known = blocks;
-        }
+        self.happened.measured(unit, blocks);
     }
 
-    /// Counts an event, unless a reader holds what is counted for long.
+    /// Counts an event.
     pub(crate) fn happened(&self, event: &Event<'_>) {
-        if let Some(mut happened) = reach(&self.happened) {
-            happened.count(event);
-        }
+        self.happened.count(self.now(), event);
+    }
+
+    /// How many calls of a kind failed on a file of a unit.
+    pub(crate) fn failed(&self, unit: u8, part: Part, call: Call) -> u64 {
+        self.happened.failed(unit, part, call)
+    }
+
+    /// The first so many of them are over, by what went well.
+    pub(crate) fn end(&self, unit: u8, part: Part, call: Call, count: u64) {
+        self.happened.end(self.now(), unit, part, call, count);
+    }
+
+    /// These blocks of a file of a unit were read.
+    pub(crate) fn read(&self, unit: u8, part: Part, place: Place) {
+        self.happened.read(self.now(), unit, part, place);
+    }
+
+    /// Ends what of the calls that failed an administrator has seen, but for flushes: nothing but a restart makes these well.
+    pub fn acknowledge(&self) {
+        self.happened.acknowledge(self.now());
     }
 
     /// A session begins: what its worker counts by.
@@ -329,8 +350,7 @@ impl Meters {
         let meter = Meter {
             number,
             who,
-            began: AtomicU64::new(0),
-            unit: AtomicU64::new(0),
+            serving: AtomicU64::new(0),
             shown: Mutex::new(shown),
         };
         let meter = Arc::new(alloc, meter)?;
@@ -338,12 +358,11 @@ impl Meters {
         book.begun = number.wrapping_add(1);
         Ok(Hand {
             meter,
+            ticks: Arc::try_clone(&self.ticks)?,
             units,
             last: None,
             is_waiting: false,
-            begun: 0,
             came: 0,
-            now: 0,
         })
     }
 
@@ -388,7 +407,7 @@ impl Meters {
             meter.age(now, &mut oldest);
             sessions.push(meter.seen(rt, now)?)?;
         }
-        let happened = *self.happened.lock(rt);
+        let happened = self.happened.seen(alloc)?;
         Ok(Seen {
             sessions,
             counts,

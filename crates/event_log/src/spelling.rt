@@ -390,6 +390,22 @@ fn hung(line: &mut String, unit: u8, part: Part, call: Call) -> Result<(), Alloc
     put(line, &[Text(" call="), Text(call.text())])
 }
 
+fn back(line: &mut String, unit: u8, part: Part, call: Call, time: u64) -> Result<(), AllocError>
+    ensures { OnOk result (string_bytes line.new
+        ≡ joined (string_bytes line.old) (parts (events.Back unit part call time))) }
+{
+    file(line, "event=back", unit, part)?;
+    put(
+        line,
+        &[
+            Text(" call="),
+            Text(call.text()),
+            Text(" ms="),
+            Number(time),
+        ],
+    )
+}
+
 fn busy(
     line: &mut String,
     unit: u8,
@@ -454,6 +470,7 @@ pub fn spell(line: &mut String, event: &Event<'_>) -> Result<(), AllocError>
             failed(line, *call, *place, *errno)
         }
         Event::Hung(unit, part, call) => hung(line, *unit, *part, *call),
+        Event::Back(unit, part, call, time) => back(line, *unit, *part, *call, *time),
         Event::Grew(unit, part) => file(line, "event=grew", *unit, *part),
         Event::NotFlushed(unit) => counted(line, "event=not_flushed unit=", u64::from(*unit)),
         Event::CannotUse(unit, part, disk, cause, errno) => {

@@ -1,5 +1,6 @@
 //! The time of a line.
 
+use std::alloc::AllocError;
 use std::fmt::{self, Display, Formatter};
 use std::time::{Clock, Duration};
 
@@ -34,6 +35,20 @@ impl Stamp {
             micros: since_1970.subsec_micros(),
         }
     }
+
+    // Its hour, minute and second.
+    fn time(&self) -> (u64, u64, u64) {
+        let minute = self.second_of_day / 60;
+        (minute / 60, minute % 60, self.second_of_day % 60)
+    }
+
+    /// Puts it behind a text, to the second.
+    pub fn put(&self, text: &mut String) -> Result<(), AllocError> {
+        let (hour, minute, second) = self.time();
+        let (year, month, day) = (self.year, self.month, self.day);
+        write!(text, "{year:04}-{month:02}-{day:02}T")?;
+        write!(text, "{hour:02}:{minute:02}:{second:02}Z")
+    }
 }
 
 // The year, month and day so many days after the beginning of 1970. A year is counted from March on, so that the day that some
@@ -55,8 +70,7 @@ fn date_of(days: u64) -> (u64, u64, u64) {
 
 impl Display for Stamp {
     fn fmt<W: fmt::Write>(&self, f: &mut Formatter<W>) -> fmt::Result {
-        let minute = self.second_of_day / 60;
-        let (hour, minute, second) = (minute / 60, minute % 60, self.second_of_day % 60);
+        let (hour, minute, second) = self.time();
         let (year, month, day, micros) = (self.year, self.month, self.day, self.micros);
         write!(f, "time={year:04}-{month:02}-{day:02}T")?;
         write!(f, "{hour:02}:{minute:02}:{second:02}.{micros:06}Z")

@@ -321,7 +321,7 @@ pub(crate) fn reject_text(reason: u8) -> &'static str
 }
 
 /// The name of an error of the system, as Linux numbers them.
-pub(crate) fn error_text(error: u32) -> &'static str
+pub fn error_text(error: u32) -> &'static str
     ensures { result.now ≡ error_text error }
 {
     match error {

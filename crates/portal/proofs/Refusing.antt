@@ -38,12 +38,18 @@ module _ (claims : Claims) (opening : ℕ → UnitState) where
       → IsTurnedBack claims opening nexus kind units faults.NoMemory seen seen
   at_once nexus kind units seen = unattached nexus kind units seen faults.NoMemory refl
 
+  -- for its connection, which was over when its turn came
+  pub too_late : (nexus : Nexus) (units : ℕ) (seen : List Sight)
+      → IsTurnedBack claims opening nexus Normal units faults.Left seen seen
+  too_late nexus units seen = unattached nexus Normal units seen faults.Left (refl, refl, refl)
+
   -- for what its port's name lacks, or for want of memory
   pub unnamed : (nexus : Nexus) (kind : SessionType) (units : ℕ) (seen : List Sight) (fault : BeginFault)
       → IsUnnamed nexus.port fault → IsTurnedBack claims opening nexus kind units fault seen seen
   unnamed nexus kind units seen faults.Begun is = absurd is
   unnamed nexus kind units seen faults.NoPortName is = unattached nexus kind units seen faults.NoPortName (refl, refl, is)
   unnamed nexus kind units seen (faults.NoRoom unit) is = absurd is
+  unnamed nexus kind units seen faults.Left is = absurd is
   unnamed nexus kind units seen faults.NoTsih is = absurd is
   unnamed nexus kind units seen faults.NoNumber is = absurd is
   unnamed nexus kind units seen faults.NoMemory is = at_once nexus kind units seen
@@ -124,6 +130,7 @@ pub grounds_of_units : (table : Sayings) (asked : Bool) (fault : BeginFault) →
 grounds_of_units table asked faults.Begun is = absurd is
 grounds_of_units table asked faults.NoPortName is = absurd is
 grounds_of_units table asked (faults.NoRoom unit) is = tt
+grounds_of_units table asked faults.Left is = absurd is
 grounds_of_units table asked faults.NoTsih is = absurd is
 grounds_of_units table asked faults.NoNumber is = absurd is
 grounds_of_units table asked faults.NoMemory is = tt
@@ -134,6 +141,7 @@ pub grounds_of_unnamed : (table : Sayings) (asked : Bool) (port : Port) (fault :
 grounds_of_unnamed table asked port faults.Begun is = absurd is
 grounds_of_unnamed table asked port faults.NoPortName is = tt
 grounds_of_unnamed table asked port (faults.NoRoom unit) is = tt
+grounds_of_unnamed table asked port faults.Left is = absurd is
 grounds_of_unnamed table asked port faults.NoTsih is = absurd is
 grounds_of_unnamed table asked port faults.NoNumber is = absurd is
 grounds_of_unnamed table asked port faults.NoMemory is = tt

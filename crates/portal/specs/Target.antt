@@ -109,12 +109,13 @@ module _ (claims : Claims) (opening : ℕ → UnitState) where
   IsFullAt nexus unit seen = (seen.0 ≡ unit) × HasNoRoom claims.contents (opening unit) nexus seen.1
 
   -- Why it may not begin, and what was seen then of a unit: it was asked before; it has no name of a port; this unit had no room for one
-  -- that is normal; there was no TSIH or no number for it, which is asked once it is attached to all; or there was no memory.
+  -- that is normal; its connection was over when its turn came; there was no TSIH or no number for it, which is asked once it is attached to all; or there was no memory.
   abbrev pub IsCauseOf : Nexus → SessionType → ℕ → List At → BeginFault → List Sight → Type 0
   IsCauseOf nexus kind units at faults.Begun seen = (at ≡ []) × (seen ≡ [])
   IsCauseOf nexus kind units at faults.NoPortName seen = (at ≡ []) × (seen ≡ []) × (IsPortName nexus.port → ⊥)
   IsCauseOf nexus kind units at (faults.NoRoom unit) seen =
       (kind ≡ Normal) × (length at ≡ unit) × ((one : Sight) × (seen ≡ one ∷ []) × IsFullAt nexus unit one)
+  IsCauseOf nexus kind units at faults.Left seen = (kind ≡ Normal) × (at ≡ []) × (seen ≡ [])
   IsCauseOf nexus kind units at faults.NoTsih seen = IsJoined kind nexus units at × (seen ≡ [])
   IsCauseOf nexus kind units at faults.NoNumber seen = IsJoined kind nexus units at × (seen ≡ [])
   IsCauseOf nexus kind units at faults.NoMemory seen = seen ≡ []
@@ -147,6 +148,7 @@ abbrev pub IsOfUnits : BeginFault → Type 0
 IsOfUnits faults.Begun = ⊥
 IsOfUnits faults.NoPortName = ⊥
 IsOfUnits (faults.NoRoom unit) = Unit {0}
+IsOfUnits faults.Left = ⊥
 IsOfUnits faults.NoTsih = ⊥
 IsOfUnits faults.NoNumber = ⊥
 IsOfUnits faults.NoMemory = Unit {0}
@@ -156,6 +158,7 @@ abbrev pub IsUnnamed : Port → BeginFault → Type 0
 IsUnnamed port faults.Begun = ⊥
 IsUnnamed port faults.NoPortName = IsPortName port → ⊥
 IsUnnamed port (faults.NoRoom unit) = ⊥
+IsUnnamed port faults.Left = ⊥
 IsUnnamed port faults.NoTsih = ⊥
 IsUnnamed port faults.NoNumber = ⊥
 IsUnnamed port faults.NoMemory = Unit {0}
@@ -166,6 +169,7 @@ abbrev pub IsGrounded : Sayings → Bool → BeginFault → Type 0
 IsGrounded table asked faults.Begun = asked ≡ true
 IsGrounded table asked faults.NoPortName = Unit {0}
 IsGrounded table asked (faults.NoRoom unit) = Unit {0}
+IsGrounded table asked faults.Left = Unit {0}
 IsGrounded table asked faults.NoTsih = table.refused enters.NoTsih
 IsGrounded table asked faults.NoNumber = table.refused enters.NoNumber
 IsGrounded table asked faults.NoMemory = Unit {0}

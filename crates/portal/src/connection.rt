@@ -2,6 +2,7 @@
 ghost use Rattle.std.specs.Prelude.{ℕ};
 
 use std::alloc::Global;
+use std::io::ErrorKind;
 use std::net::{Shutdown, TcpStream};
 use std::sync::Arc;
 use std::time::Duration;
@@ -19,6 +20,9 @@ pub trait Connection {
 
     /// Ends the connection, from any thread: a read or a write that waits at it ends too.
     fn shut(&self);
+
+    /// Whether its other end still holds it, as far as this one was told. Only who reads from it asks.
+    fn is_held(&self) -> bool;
 
     /// The login is not over yet: a read that waits for so many seconds fails.
     fn limit(&self, seconds: u64)
@@ -39,6 +43,18 @@ impl Connection for Arc<TcpStream, Global> {
 
     fn shut(&self) {
         let _ = self.shutdown(Shutdown::Both);
+    }
+
+    // It is over where a read would tell its end, or an error.
+    fn is_held(&self) -> bool {
+        if self.set_nonblocking(true).is_err() {
+            return true;
+        }
+        let is_held = match self.peek(&mut [0]) {
+            Ok(count) => count != 0,
+            Err(e) => e.kind() == ErrorKind::WouldBlock || e.kind() == ErrorKind::Interrupted,
+        };
+        self.set_nonblocking(false).is_ok() && is_held
     }
 
     #[tactic(auto, using(crate::specs::Silence::a_limit_says))]

@@ -5,10 +5,14 @@ ghost use Rattle.unit_lock.specs.Calls.{PlacedPass};
 ghost use Rattle.unit_control.specs.Entry.{Entry};
 
 use crate::units::Pass;
-use block_file::ReplyMemory;
-use disk_preparer::Preparer;
+use block_file::{BLOCK_LENGTH, ReplyMemory};
+use disk_preparer::{Account, Preparer};
 use scsi_types::{Asked, Command};
 use std::marker::{Brand, Model, PhantomData};
+use std::time::Duration;
+
+/// So many seconds a command waits at most for room, before its unit is asked.
+const PATIENCE: u64 = 10;
 
 /// What each command passes before its unit is asked, and what flushes behind it, where the unit was asked without the flush. It makes no
 /// reply: it can only keep a command waiting, and say that its flush has failed.
@@ -19,6 +23,18 @@ pub trait Gate {
     /// A flush is done that began when a session's pass was this. That it began then follows from who may say it: a call of
     /// `flush_behind` alone.
     ghost lasts: { PlacedPass Entry → Type 0 };
+
+    /// The command of a session with this account at the unit of this place is about to be submitted: where it writes, and much is
+    /// written that is not flushed, it waits first. No lock is held meanwhile.
+    fn let_in(&self, _unit: usize, _asked: &Asked, _account: &mut Account) {}
+
+    /// Waits until much was written to the unit at this place, one of so many, and flushes it. False: nothing is flushed so any more.
+    fn flush_when_due(&self, _unit: usize, _among: u64) -> bool {
+        false
+    }
+
+    /// Nothing is from now on.
+    fn close(&self) {}
 
     /// The command with this serial of a session is about to be submitted to the unit at this place: what it needs is fetched first,
     /// unless it is read by `read`.
@@ -91,10 +107,46 @@ impl<P: Preparer, N: Disks> Prepared<P, N> {
     }
 }
 
+// How many bytes a command writes at most.
+fn written_by(asked: &Asked) -> u64 {
+    match asked {
+        Ok(Command::Write { blocks, .. }) => BLOCK_LENGTH as u64 * u64::from(*blocks),
+        Ok(Command::CompareAndWrite { blocks, .. }) => BLOCK_LENGTH as u64 * u64::from(*blocks),
+        _ => 0,
+    }
+}
+
 impl<P: Preparer, N: Disks> Gate for Prepared<P, N> {
     ghost is_late = { P.may_flush };
 
     ghost lasts = { λ pass. P.has_flushed (N.disk pass.place) };
+
+    fn let_in(&self, unit: usize, asked: &Asked, account: &mut Account) {
+        let bytes = written_by(asked);
+        if bytes > 0
+            && let Some(preparer) = self.of.get(unit)
+        {
+            preparer.let_in(bytes, account, Duration::from_secs(PATIENCE));
+        }
+    }
+
+    fn flush_when_due(&self, unit: usize, among: u64) -> bool {
+        let Some(preparer) = self.of.get(unit) else {
+            return false;
+        };
+        let is_due = preparer.await_flush(among);
+        if is_due {
+            // One that fails is told to the log by its preparer, and to the next command that flushes.
+            let _ = preparer.flush();
+        }
+        is_due
+    }
+
+    fn close(&self) {
+        for preparer in &self.of {
+            preparer.close();
+        }
+    }
 
     fn fetch(&self, unit: usize, serial: u64, asked: &Asked) {
         let Some(preparer) = self.of.get(unit) else {

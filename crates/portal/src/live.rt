@@ -193,15 +193,21 @@ impl<C> Table<C> {
         self.live.iter().any(|session| session.tsih == tsih && is_of_port(session, name, isid))
     }
 
-    /// Ends the connection of the session with this TSIH, where one lives: whether one does. It lives until its worker has seen
-    /// the end.
+    /// Whether a session with this TSIH lives: it does until its worker has left all units.
+    pub fn has_tsih(&self, tsih: u16) -> bool
+        ensures { result ≡ list_any (λ s. nat_eq s.tsih tsih) self.now.live }
+    {
+        self.live.iter().any(|session| session.tsih == tsih)
+    }
+
+    /// Ends the connection of the session with this TSIH, where one lives: whether one does.
     pub fn shut(&self, tsih: u16) -> bool
     where
         C: Connection,
         ensures { result ≡ list_any (λ s. nat_eq s.tsih tsih) self.now.live }
     {
         shut_one(&self.live, tsih);
-        self.live.iter().any(|session| session.tsih == tsih)
+        self.has_tsih(tsih)
     }
 
     /// Whether the session with this number lives.

@@ -226,7 +226,7 @@ impl<
 // What the array lacked where it refused a session.
 fn cause_of(fault: BeginFault) -> Cause {
     match fault {
-        BeginFault::Begun | BeginFault::NoPortName => Cause::Request,
+        BeginFault::Begun | BeginFault::NoPortName | BeginFault::Left => Cause::Request,
         BeginFault::NoRoom(unit) => Cause::NoRoom(unit),
         BeginFault::NoTsih => Cause::NoTsih,
         BeginFault::NoNumber => Cause::NoNumber,

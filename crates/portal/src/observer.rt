@@ -93,7 +93,7 @@ impl<'a, R: Wait + Clock> Observer<'a, R> {
             && let Ok(mut hand) = self.hand.try_borrow_mut()
             && let Some(hand) = hand.as_mut()
         {
-            hand.begin(self.rt, unit);
+            hand.begin(unit);
         }
     }
 

@@ -10,6 +10,7 @@ use crate::gate::Gate;
 use crate::keepalive::is_kept_alive;
 use crate::live::Table;
 use crate::logged_target::Visitor;
+use crate::login_limit::LimitedSource;
 use crate::observer::Observer;
 use crate::stacks::{STACK, Stacks};
 use crate::units::{LogicalUnits, Pass};
@@ -28,7 +29,7 @@ use std::thread::{Builder, JoinHandle, Threads};
 use std::time::{Clock, Duration};
 use std::{io, thread};
 
-/// So many seconds may a connection be silent before its login is over.
+/// So many seconds may a login take, and be silent.
 const LOGIN_SILENCE: u64 = 30;
 
 /// So many milliseconds an accept loop rests where no connection could be accepted.
@@ -165,7 +166,8 @@ fn serve_as<R: Wait + Clock, U: LogicalUnits<P, H> + Drop, G: Gate + Drop, P: Pa
     };
     let stream: &TcpStream = socket;
     let observer = Observer::new(rt, &server.log, path);
-    let mut source = KeptSource::new(alloc, Watched::timed(stream), &observer);
+    let timed = LimitedSource::new(Watched::timed(stream), rt, socket, LOGIN_SILENCE);
+    let mut source = KeptSource::new(alloc, timed, &observer);
     let mut sink = ObservedSink::new(Watched::new(stream), &observer);
     match serve_session::<
         R,
@@ -175,7 +177,7 @@ fn serve_as<R: Wait + Clock, U: LogicalUnits<P, H> + Drop, G: Gate + Drop, P: Pa
         Socket,
         P,
         H,
-        KeptSource<'_, R, Watched<&TcpStream>>,
+        KeptSource<'_, R, LimitedSource<'_, R, Watched<&TcpStream>, Socket>>,
         ObservedSink<'_, R, Watched<&TcpStream>>,
     >(
         rt,

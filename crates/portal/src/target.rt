@@ -33,6 +33,8 @@ pub enum BeginFault {
     NoPortName,
     /// This unit has no room for it.
     NoRoom(u8),
+    /// Its connection was over when its turn came.
+    Left,
     /// A session has each TSIH.
     NoTsih,
     /// As many sessions have begun as are counted.
@@ -254,9 +256,9 @@ fn enter<R: Wait, S: Sessions<C>, C: Connection>(
     sessions.enter(rt, new, connection)
 }
 
-// Attaches a normal session, which has its turn, to all units; then it begins to live: its number and its TSIH. Where a unit or the
+// Attaches a normal session to all units; then it begins to live: its number and its TSIH. Where a unit or the
 // table refuses it, it is over at all units. What was seen then is kept.
-fn attach_and_enter<
+fn attach_then_enter<
     R: Wait,
     U: LogicalUnits<P, H>,
     S: Sessions<C>,
@@ -264,7 +266,6 @@ fn attach_and_enter<
     P: Pass,
     H: Drop,
 >(
-    _turn: &mut Turn,
     rt: &R,
     alloc: Global,
     units: &U,
@@ -304,6 +305,49 @@ fn attach_and_enter<
             Err(BeginFault::from(fault))
         }
     }
+}
+
+// The same of one that has its turn. It may have waited for long, and would end a session of its port that lives: so it is refused where
+// its connection is over by then.
+#[tactic(auto, using(crate::proofs::Refusing::too_late))]
+fn attach_and_enter<
+    R: Wait,
+    U: LogicalUnits<P, H>,
+    S: Sessions<C>,
+    C: Connection + Drop,
+    P: Pass,
+    H: Drop,
+>(
+    _turn: &mut Turn,
+    rt: &R,
+    alloc: Global,
+    units: &U,
+    sessions: &S,
+    port: PortName,
+    group: Group,
+    connection: C,
+    at: &mut Vec<UnitSession<P>>,
+    seen: &mut Vec<H>,
+) -> Result<(u64, u16), BeginFault>
+    requires none { at.old.items ≡ [] }
+    requires room { length seen.old.items + U.unit_count units.now ≤ vec_capacity seen.old }
+    ensures joined { IfOk result (λ _. IsJoined U.claims U.opening SessionType.Normal (through port group)
+        (U.unit_count units.now) at.new.items) }
+    ensures placed { IfOk result (λ _. All (λ a. a.place < U.unit_count units.now) at.new.items) }
+    ensures entered { IfOk result (λ r. S.says.entered (through port group) SessionType.Normal r.0 r.1) }
+    ensures tsih { IfOk result (λ r. 0 < r.1) }
+    ensures unseen { IfOk result (λ _. seen.new ≡ seen.old) }
+    ensures turned_back { IfErr result (λ fault. IsTurnedBack U.claims U.opening (through port group) SessionType.Normal
+        (U.unit_count units.now) fault (map U.seen seen.old.items) (map U.seen seen.new.items)) }
+    ensures grounds { IfErr result (IsGrounded S.says false) }
+    ensures left { IfErr result (λ _. at.new.items ≡ []) }
+{
+    if !connection.is_held() {
+        return Err(BeginFault::Left);
+    }
+    attach_then_enter(
+        rt, alloc, units, sessions, port, group, connection, at, seen,
+    )
 }
 
 // What a session is answered to a command of a unit that is not there.

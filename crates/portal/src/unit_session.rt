@@ -7,6 +7,7 @@ use crate::gate::Gate;
 use crate::late::answer_behind_flush;
 use crate::units::{LogicalUnits, Pass, Unserved};
 use block_file::ReplyMemory;
+use disk_preparer::Account;
 use forwarding::DeskFault;
 use late_flushes::without_flush;
 use scsi_types::{Asked, Group, Reply};
@@ -22,6 +23,8 @@ pub struct UnitSession<P: Pass> {
     // The pass; out only while a call has it.
     pass: Option<P>,
     by_group: Group,
+    // What it has written to the unit's disk of late.
+    account: Account,
 }
 
 impl<P: Pass> Model for UnitSession<P> {
@@ -117,6 +120,7 @@ impl<P: Pass> UnitSession<P> {
         UnitSession {
             pass: Some(pass),
             by_group,
+            account: Account::new(),
         }
     }
 
@@ -148,6 +152,7 @@ impl<P: Pass> UnitSession<P> {
             unreachable!()
         };
         let serial = pass.next_serial();
+        gate.let_in(pass.place(), asked, &mut self.account);
         gate.fetch(pass.place(), serial, asked);
         let room = gate.read(pass.place(), serial, asked, room);
         let by_group = self.by_group;

@@ -1,22 +1,21 @@
 //! What hosts do at an array, and are answered. A script has a line for each PDU: `> PDU` is sent, and `< PDU` comes.
 //! `test_connections` says how a PDU is spelled.
 use crate::ends::must;
-use crate::host::{Host, is_text};
 use crate::site::{PORTALS, Site};
-use crate::texts::texts;
 use std::alloc::Global;
 use std::net::{Net, SocketAddrV4, TcpListener, TcpStream};
 use std::process::Abort;
 use std::test::Fail;
-use test_connections::{lines_of, pdu_of};
+use test_connections::{Host, host_texts, is_text, lines_of, pdu_of};
 
 // Sends what a line spells, or compares it with what comes.
 fn obey<R: Abort>(rt: &R, alloc: Global, host: &mut Host, line: &str) -> Result<(), Fail> {
     let (verb, spelling) = line.split_once(' ').ok_or("a line")?;
-    let mut pdu = pdu_of(alloc, texts(), spelling)?;
+    let mut pdu = pdu_of(alloc, host_texts(), spelling)?;
     if verb == ">" {
         return host.send(pdu.as_mut_slice());
     }
+    must(rt, verb == "<", line, &"no verb");
     let came = host.receive(alloc)?;
     let is_answer = host.is_answer(came.as_slice(), pdu.as_mut_slice());
     must(rt, is_answer, line, &came);

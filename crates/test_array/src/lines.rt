@@ -1,6 +1,7 @@
 //! The lines of the console, over units that count.
 use crate::ends::must;
 use array::{Operations, console};
+use command_line::Fault;
 use scsi_types::Group;
 use status::Row;
 use std::alloc::Global;
@@ -51,8 +52,9 @@ impl Operations for Two {
         self.closed = self.closed.saturating_add(1);
     }
 
-    fn flush(&mut self) {
+    fn flush(&mut self) -> Result<(), u8> {
         self.flushed = self.flushed.saturating_add(self.closed);
+        Err(1)
     }
 }
 
@@ -61,7 +63,7 @@ const STATUS: &str =
 unit 1 owner 2 states 3 0 generation 0 keys 0 type 0 entries 0
 ";
 
-// Compares what the lines are answered. Behind them the units were flushed once.
+// Compares what the lines are answered. Behind them the units were flushed once, and it is told that one was not.
 fn compare(rt: &impl Abort, alloc: Global, lines: &[u8], answers: &str) -> Result<(), Fail> {
     let mut array = Two {
         asked: 0,
@@ -69,9 +71,11 @@ fn compare(rt: &impl Abort, alloc: Global, lines: &[u8], answers: &str) -> Resul
         flushed: 0,
     };
     let mut written = Vec::new(alloc);
-    console(alloc, lines, &mut written, &mut array);
+    let end = console(alloc, lines, &mut written, &mut array);
     let text = String::from_utf8(written)?;
-    let is_right = text.as_str() == answers && array.flushed == 1;
+    let is_told = end == Err(Fault::NotFlushed(1));
+    let said = text.as_str().strip_suffix("not flushed 1\n");
+    let is_right = is_told && said == Some(answers) && array.flushed == 1;
     must(rt, is_right, "these lines", &(lines, text));
     Ok(())
 }

@@ -3,7 +3,6 @@ ghost use Rattle.std.specs.Prelude.{◌≤◌, length};
 ghost use Rattle.unit_history.specs.Naming.{IsNamed};
 
 use crate::ends::must;
-use crate::memory::new_unit;
 use array::{Operated, console};
 use array_units::Units;
 use block_file::{Blocks, FusedBlocks, KeepOpener, MemBlocks, Opener};
@@ -16,6 +15,7 @@ use std::process::Abort;
 use std::sync::Wait;
 use std::test::Fail;
 use std::time::Clock;
+use test_memory::new_unit;
 use unit_history::{NewUnit, Opened};
 use unit_sequence::Namings;
 
@@ -46,7 +46,7 @@ fn quit<B: Blocks, F: Blocks, O: Opener<B>, N: Namings<Opened>, R: Wait + Clock>
         controllers,
         log: &log,
     };
-    console(alloc, "quit\n".as_bytes(), &mut told, &mut operated);
+    let _ = console(alloc, "quit\n".as_bytes(), &mut told, &mut operated);
 }
 
 // Behind it no desk has a job any more, where an open one would wait for the next. Each unit was flushed: of each the next flush fails.

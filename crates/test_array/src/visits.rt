@@ -1,6 +1,5 @@
 //! The console of an array whose hosts come between two of its lines.
 use crate::ends::must;
-use crate::host::Host;
 use crate::hosts::{come, finds};
 use crate::site::{SIZE, Site, copy};
 use disk_files::{DiskFault, open_disk};
@@ -11,7 +10,7 @@ use std::net::{Net, SocketAddrV4, TcpListener, TcpStream};
 use std::process::{Abort, Termination};
 use std::rt::Files;
 use std::test::Fail;
-use test_connections::bytes_of;
+use test_connections::{Host, bytes_of};
 
 // The name of the host that registers.
 const REGISTRANT: &[u8] = b"iqn.2000-01.test:a";

@@ -2,7 +2,6 @@
 //! copied, and a second array starts over the copies: so it finds what was written and registered, though the first has not ended.
 //! This shows no loss of a cache, as what a disk has not yet written is in the copies too.
 use crate::ends::must;
-use crate::host::Host;
 use crate::hosts::perform;
 use crate::site::{Site, free_site, make};
 use crate::visits::{Visited, console_lines};
@@ -15,7 +14,7 @@ use std::net::{Net, TcpListener, TcpStream};
 use std::process::{self, Abort};
 use std::rt::Files;
 use std::test::*;
-use test_connections::filled;
+use test_connections::{Host, filled};
 
 // What hosts do before the files are copied. Each login is told the group of its portal.
 fn before() -> &'static str {

@@ -2,6 +2,7 @@
 use crate::ends::must;
 use command_line::{Fault, Options, WordsFault, read};
 use std::alloc::Global;
+use std::net::{Ipv4Addr, SocketAddrV4};
 use std::test::*;
 
 // The words of a line, each as a string of its own: they stand between bars. A line of nothing has none.
@@ -159,22 +160,39 @@ fn length_of_a_name(rt: HostRuntime) -> Result<(), Fail> {
 
 #[test]
 fn texts_of_the_faults(rt: HostRuntime) -> Result<(), Fail> {
+    let at = SocketAddrV4::new(Ipv4Addr::new(10, 0, 5, 1), 3260);
     let rows = [
         (Fault::WrongWords, "wrong words"),
-        (Fault::CannotUseUnit(0), "cannot use unit 0"),
         (
-            Fault::CannotUseRegistrationFile(7),
-            "cannot use registration file 7",
+            Fault::OtherUnit(0, 1, 3, 7),
+            "unit 0 of array 1 is unit 3 of array 7",
         ),
         (
-            Fault::CannotListen(1, 0),
-            "cannot listen at controller 1 portal 0",
+            Fault::CannotUseUnit(0, "it is not there", 2),
+            "cannot use unit 0: it is not there, errno 2",
         ),
         (
-            Fault::CannotListen(2, 3),
-            "cannot listen at controller 2 portal 3",
+            Fault::CannotUseRegistrationFile(7, "it is of another version", 0),
+            "cannot use registration file 7: it is of another version",
+        ),
+        (
+            Fault::CannotListen(1, 0, at, 98),
+            "cannot listen at controller 1 portal 0: 10.0.5.1:3260, errno 98",
+        ),
+        (
+            Fault::CannotListen(2, 3, at, 0),
+            "cannot listen at controller 2 portal 3: 10.0.5.1:3260",
+        ),
+        (
+            Fault::CannotListenAt(at, 13),
+            "cannot listen at 10.0.5.1:3260: errno 13",
+        ),
+        (
+            Fault::CannotControl(98),
+            "cannot make the control socket: errno 98",
         ),
         (Fault::NoMemory, "no memory"),
+        (Fault::NotFlushed(7), "unit 7 was not flushed"),
     ];
     for (fault, text) in &rows {
         let said = fault.to_string(rt.alloc())?;

@@ -1,10 +1,11 @@
-//! What tests over streams of bytes share: a reader and a writer that do as they are told, and PDUs
-//! as lines of text.
+//! What tests over streams of bytes share: a reader and a writer that do as they are told, PDUs as lines of text, and the
+//! connection of an initiator.
 #![tactic(auto)]
 
 mod calls;
 mod digits;
 mod forms;
+mod host;
 mod lines;
 mod named;
 mod rows;
@@ -12,6 +13,7 @@ mod texts;
 
 pub use calls::{Calls, FakeReader, FakeWriter, ONE_BYTE, WHOLE};
 pub use forms::filled;
+pub use host::{Host, is_text, put_number};
 pub use lines::{Texts, bytes_of, lines_of, pdu_of};
 pub use rows::RowError;
-pub use texts::{HOST_A, LIBISCSI_AGREED, LIBISCSI_OFFERS, THE_TARGET, WELCOME};
+pub use texts::{HOST_A, LIBISCSI_AGREED, LIBISCSI_OFFERS, THE_TARGET, WELCOME, host_texts};

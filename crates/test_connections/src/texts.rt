@@ -1,4 +1,5 @@
 //! Texts of logins that tests of several crates name (RFC 7143, 13).
+use crate::lines::Texts;
 
 /// What the initiator `a` says of itself, and what it logs in to: a normal session.
 pub const HOST_A: &str =
@@ -25,3 +26,30 @@ pub const LIBISCSI_AGREED: &str =
      FirstBurstLength=65536\\0DefaultTime2Wait=2\\0DefaultTime2Retain=0\\0MaxOutstandingR2T=1\\0\
      ErrorRecoveryLevel=0\\0IFMarker=No\\0OFMarker=No\\0MaxConnections=1\\0DataPDUInOrder=Yes\\0\
      DataSequenceInOrder=Yes\\0";
+
+/// What the initiators `a`, `b` and `other` say of themselves in a login, and `a` in one of discovery; what each controller says by
+/// itself; what the tools of libiscsi offer, and are answered.
+pub fn host_texts() -> Texts<'static> {
+    &[
+        ("HOST_A", HOST_A),
+        (
+            "HOST_B",
+            r"InitiatorName=iqn.2000-01.test:b\0TargetName=iqn.2000-01.test:array\0SessionType=Normal\0",
+        ),
+        (
+            "OTHER_HOST",
+            r"InitiatorName=iqn.2000-01.test:other\0TargetName=iqn.2000-01.test:array\0SessionType=Normal\0",
+        ),
+        (
+            "FINDS",
+            r"InitiatorName=iqn.2000-01.test:a\0SessionType=Discovery\0",
+        ),
+        ("WELCOME", WELCOME),
+        (
+            "WELCOME_2",
+            r"TargetPortalGroupTag=2\0MaxRecvDataSegmentLength=65536\0",
+        ),
+        ("LIBISCSI_OFFERS", LIBISCSI_OFFERS),
+        ("LIBISCSI_AGREED", LIBISCSI_AGREED),
+    ]
+}

@@ -1,5 +1,7 @@
 //! What is answered to a request.
 
+use std::net::Ipv4Addr;
+
 /// What is seen of the array, in one of its forms.
 #[derive(Clone, Copy)]
 pub enum Seen {
@@ -17,11 +19,34 @@ pub enum Wanted {
     Nothing,
     /// To do what is not allowed.
     Deed,
+    /// It was meant for another server: a browser was led here by a name.
+    Misled,
 }
 
-/// What a request with this method and this path asks for.
-pub fn asked_for(method: &str, path: &str) -> Wanted {
-    if method != "GET" {
+// The host of such a value, without the port behind it.
+fn without_port(value: &str) -> &str {
+    match value.rsplit_once(':') {
+        Some((host, _)) => host,
+        None => value,
+    }
+}
+
+// Whether a request with this field Host came by an address, or by the name that a machine gives itself. The owner of any other name
+// may have it lead here, and a page of his that a browser has open would read the answer (DNS rebinding). Programs may send none.
+fn is_for_us(host: Option<&str>) -> bool {
+    let Some(value) = host else {
+        return true;
+    };
+    let host = without_port(value);
+    host == "localhost" || host.parse::<Ipv4Addr>().is_ok()
+}
+
+/// What a request with this method, this path and this field Host asks for. HEAD is GET without a body.
+pub fn asked_for(method: &str, path: &str, host: Option<&str>) -> Wanted {
+    if !is_for_us(host) {
+        return Wanted::Misled;
+    }
+    if method != "GET" && method != "HEAD" {
         return Wanted::Deed;
     }
     match path {

@@ -1,7 +1,8 @@
 //! What is seen, as JSON.
 
 use crate::view::{
-    ArrayView, Commands, Controller, NamedCount, PathView, Registration, SessionView, UnitView,
+    ArrayView, Commands, Controller, FailureView, NamedCount, PathView, Registration, SessionView,
+    UnitView,
 };
 use json::Writer;
 use std::alloc::{AllocError, Global};
@@ -123,12 +124,19 @@ impl AsJson for Registration {
     }
 }
 
+impl AsJson for FailureView {
+    fn put(&self, json: &mut Writer) -> Result<(), AllocError> {
+        put_fields!(json, self: file, call, count, is_now, began, last, ended, errno, error)
+    }
+}
+
 impl AsJson for UnitView {
     fn put(&self, json: &mut Writer) -> Result<(), AllocError> {
         put_fields!(json, self:
-            unit, owner, generation, registrants, reservation_type, registrations, entries, disk,
-            registration_file, blocks, health, troubles, disk_failures, registration_failures,
-            oldest_command_micros, paths)
+            unit, owner, generation, registrants, reservation_type, registrations, entries, naa,
+            serial, wwid, disk,
+            registration_file, blocks, health, troubles, failures, disk_failures,
+            registration_failures, oldest_command_micros, paths)
     }
 }
 
@@ -142,7 +150,7 @@ impl AsJson for SessionView {
 
 impl AsJson for Controller {
     fn put(&self, json: &mut Writer) -> Result<(), AllocError> {
-        put_fields!(json, self: controller, portals, sessions)
+        put_fields!(json, self: controller, is_down, portals, sessions, discoveries)
     }
 }
 
@@ -150,7 +158,7 @@ impl AsJson for ArrayView {
     fn put(&self, json: &mut Writer) -> Result<(), AllocError> {
         put_fields!(json, self:
             version, target, array, since, uptime_micros, controllers, units, sessions, logins,
-            refused_logins, bounds_micros, problems)
+            refused_logins, bounds_micros, problems, degraded)
     }
 }
 

@@ -7,9 +7,9 @@ use crate::view::{ArrayView, Commands, Controller, NamedCount, PathView, Session
 use std::alloc::{AllocError, Global};
 
 /// The bounds of the buckets of times in seconds, as labels tell them.
-const BOUND_TEXTS: [&str; 12] = [
-    "0.00005", "0.0001", "0.00025", "0.0005", "0.001", "0.0025", "0.01", "0.05", "0.25", "1",
-    "2.5", "10",
+const BOUND_TEXTS: [&str; 14] = [
+    "0.00001", "0.00002", "0.00005", "0.0001", "0.00025", "0.0005", "0.001", "0.0025", "0.01",
+    "0.05", "0.25", "1", "2.5", "10",
 ];
 
 /// The length of a block, in bytes.
@@ -54,30 +54,50 @@ fn refused(text: &mut String, name: &str, tallies: &[NamedCount]) -> Result<(), 
     Ok(())
 }
 
-// Sessions, by their controller.
+// The label of a controller.
+fn controller_label(controller: &Controller) -> Label<'static> {
+    Label::Number("controller", controller.controller)
+}
+
+// Whether each controller is down.
+fn downs(text: &mut String, name: &str, controllers: &[Controller]) -> Result<(), AllocError> {
+    for controller in controllers {
+        let is_down = Count(u64::from(controller.is_down));
+        put(text, name, &[controller_label(controller)], is_down)?;
+    }
+    Ok(())
+}
+
+// Sessions by their controller, of which some are for discovery.
 fn sessions(text: &mut String, name: &str, controllers: &[Controller]) -> Result<(), AllocError> {
     for controller in controllers {
-        let label = Label::Number("controller", controller.controller);
-        put(text, name, &[label], Count(controller.sessions))?;
+        let label = controller_label(controller);
+        let (all, discoveries) = (controller.sessions, controller.discoveries);
+        let normal = Label::Word("type", "normal");
+        let others = Count(all.saturating_sub(discoveries));
+        put(text, name, &[label, normal], others)?;
+        let discovery = Label::Word("type", "discovery");
+        put(text, name, &[label, discovery], Count(discoveries))?;
     }
     Ok(())
 }
 
 // The labels of a session.
-fn labels_of(session: &SessionView) -> [Label<'_>; 5] {
+fn labels_of(session: &SessionView) -> [Label<'_>; 4] {
     [
         Label::Name("initiator", session.initiator.as_bytes()),
         Label::Name("isid", session.isid.as_bytes()),
         Label::Number("tsih", session.tsih),
         Label::Number("controller", session.controller),
-        Label::Word("type", session.kind),
     ]
 }
 
-// Commands of each session.
+// Commands of each session but the discovery sessions, which have none: whoever comes may name as many of these as he likes.
 fn of_sessions(text: &mut String, name: &str, sessions: &[SessionView]) -> Result<(), AllocError> {
     for session in sessions {
-        put(text, name, &labels_of(session), Count(session.commands))?;
+        if !session.is_discovery {
+            put(text, name, &labels_of(session), Count(session.commands))?;
+        }
     }
     Ok(())
 }
@@ -95,6 +115,8 @@ fn of_array(
         OfArray::Start => put(text, name, &[], Count(view.since)),
         OfArray::Uptime => put(text, name, &[], Micros(view.uptime_micros)),
         OfArray::Problems => put(text, name, &[], Count(view.problems.len() as u64)),
+        OfArray::Degraded => put(text, name, &[], Count(view.degraded.len() as u64)),
+        OfArray::ControllersDown => downs(text, name, &view.controllers),
         OfArray::Logins => put(text, name, &[], Count(view.logins)),
         OfArray::RefusedLogins => refused(text, name, &view.refused_logins),
         OfArray::Sessions => sessions(text, name, &view.controllers),
@@ -111,10 +133,17 @@ fn path_label(path: &PathView) -> Label<'static> {
     Label::Number("controller", path.controller)
 }
 
-// The disk of a unit.
+// The disk of a unit, and what hosts know it by.
 fn disk(text: &mut String, name: &str, unit: &UnitView) -> Result<(), AllocError> {
     let disk = Label::Name("disk", unit.disk.as_bytes());
-    put(text, name, &[unit_label(unit), disk], Count(1))
+    let wwid = Label::Word("wwid", unit.wwid.as_str());
+    let serial = Label::Word("serial", unit.serial.as_str());
+    put(
+        text,
+        name,
+        &[unit_label(unit), disk, wwid, serial],
+        Count(1),
+    )
 }
 
 // The calls of a file of a unit that failed.
@@ -179,6 +208,7 @@ fn of_unit(text: &mut String, name: &str, unit: &UnitView, what: OfUnit) -> Resu
         OfUnit::OldestCommand => of_one(text, name, unit, Micros(unit.oldest_command_micros)),
         OfUnit::Disk => disk(text, name, unit),
         OfUnit::Failures => all_failures(text, name, unit),
+        OfUnit::Hung => of_one(text, name, unit, Count(unit.hung)),
         OfUnit::Troubles => troubles(text, name, unit),
     }
 }

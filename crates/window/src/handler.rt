@@ -13,8 +13,8 @@ use std::alloc::{AllocError, Global};
 
 /// What collects the state of an array.
 pub trait Collector {
-    /// The state now.
-    fn collect(&self, alloc: Global) -> Result<ArrayView, AllocError>;
+    /// The state now, as far as this shows it: registrations are a part of the status alone.
+    fn collect(&self, alloc: Global, seen: Seen) -> Result<ArrayView, AllocError>;
 }
 
 /// Answers requests by what is collected.
@@ -130,8 +130,22 @@ fn page() -> Bytes {
 
 // That nothing can be done here.
 fn refuse(response: &mut Response) -> Result<(), AllocError> {
-    add!(response, header::ALLOW, "GET")?;
+    add!(response, header::ALLOW, "GET, HEAD")?;
     say(response, StatusCode::METHOD_NOT_ALLOWED, b"only GET\n")
+}
+
+// That the request was meant for another server.
+fn mislead(response: &mut Response) -> Result<(), AllocError> {
+    let text = b"ask by an address, or as localhost\n";
+    say(response, StatusCode::MISDIRECTED_REQUEST, text)
+}
+
+// The field Host of a request; one that is no text is no name that is known.
+fn host_of(request: &Request<Bytes>) -> Option<&str> {
+    match request.headers().get(header::HOST) {
+        Some(value) => Some(value.to_str().unwrap_or("")),
+        None => None,
+    }
 }
 
 impl<'a, S: Collector> Handler<'a, S> {
@@ -142,7 +156,7 @@ impl<'a, S: Collector> Handler<'a, S> {
 
     // Answers by what is seen now.
     fn show(&self, seen: Seen, response: &mut Response) -> Result<(), AllocError> {
-        let view = self.collector.collect(self.alloc)?;
+        let view = self.collector.collect(self.alloc, seen)?;
         tell_seen(self.alloc, &view, seen, response)
     }
 
@@ -153,6 +167,7 @@ impl<'a, S: Collector> Handler<'a, S> {
             Wanted::Seen(seen) => self.show(seen, response),
             Wanted::Nothing => say(response, StatusCode::NOT_FOUND, b"not found\n"),
             Wanted::Deed => refuse(response),
+            Wanted::Misled => mislead(response),
         }
     }
 }
@@ -173,7 +188,8 @@ impl<S: Collector> Service for Handler<'_, S> {
         response: &mut Response,
     ) -> Result<(), AllocError> {
         put_common(response)?;
-        let wanted = asked_for(request.method().as_str(), request.uri().path());
+        let (method, path) = (request.method().as_str(), request.uri().path());
+        let wanted = asked_for(method, path, host_of(request));
         self.tell(wanted, response)
     }
 }

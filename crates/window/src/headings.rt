@@ -10,6 +10,8 @@ pub(crate) enum OfArray {
     Start,
     Uptime,
     Problems,
+    Degraded,
+    ControllersDown,
     Logins,
     RefusedLogins,
     Sessions,
@@ -17,7 +19,7 @@ pub(crate) enum OfArray {
 }
 
 /// All of it, in the order of its lines.
-pub(crate) static OF_ARRAY: [Metric<OfArray>; 8] = [
+pub(crate) static OF_ARRAY: [Metric<OfArray>; 10] = [
     (
         OfArray::Build,
         "arrayd_build_info",
@@ -43,6 +45,18 @@ pub(crate) static OF_ARRAY: [Metric<OfArray>; 8] = [
         "How many things are wrong; /health tells them.",
     ),
     (
+        OfArray::Degraded,
+        "arrayd_degraded",
+        "gauge",
+        "How many things are served by less than there is; /health tells them.",
+    ),
+    (
+        OfArray::ControllersDown,
+        "arrayd_controller_down",
+        "gauge",
+        "1 where no unit is served by the controller, else 0.",
+    ),
+    (
         OfArray::Logins,
         "arrayd_logins_total",
         "counter",
@@ -58,13 +72,13 @@ pub(crate) static OF_ARRAY: [Metric<OfArray>; 8] = [
         OfArray::Sessions,
         "arrayd_sessions",
         "gauge",
-        "Sessions that are logged in.",
+        "Sessions that are logged in, by what they are for.",
     ),
     (
         OfArray::SessionCommands,
         "arrayd_session_commands_total",
         "counter",
-        "Commands of a session that is logged in.",
+        "Commands of a session that is logged in, and is no discovery session.",
     ),
 ];
 
@@ -80,11 +94,12 @@ pub(crate) enum OfUnit {
     OldestCommand,
     Disk,
     Failures,
+    Hung,
     Troubles,
 }
 
 /// All of it, in the order of its lines.
-pub(crate) static OF_UNITS: [Metric<OfUnit>; 10] = [
+pub(crate) static OF_UNITS: [Metric<OfUnit>; 11] = [
     (
         OfUnit::Owner,
         "arrayd_unit_owner",
@@ -131,13 +146,19 @@ pub(crate) static OF_UNITS: [Metric<OfUnit>; 10] = [
         OfUnit::Disk,
         "arrayd_unit_info",
         "gauge",
-        "The disk of the unit.",
+        "The disk of the unit, and what hosts know it by.",
     ),
     (
         OfUnit::Failures,
         "arrayd_device_failures_total",
         "counter",
         "Calls of the system that failed, by the file and the call.",
+    ),
+    (
+        OfUnit::Hung,
+        "arrayd_device_hung_total",
+        "counter",
+        "Files of the unit a call on which took longer than the deadline.",
     ),
     (
         OfUnit::Troubles,

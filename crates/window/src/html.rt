@@ -30,7 +30,7 @@ header { display: flex; flex-wrap: wrap; gap: 4px 18px; align-items: baseline; }
 .wire.none { border-top: 3px dotted var(--bad); }
 .pair { display: grid; grid-template-columns: 1fr 1fr; gap: 2px 10px; font-size: .88rem; margin-top: 6px; }
 .right { text-align: right; } .facts { font-size: .88rem; margin-top: 6px; border-top: 1px solid var(--line); padding-top: 6px; }
-.stale main { opacity: .45; } .warn { color: var(--two); font-weight: 700; }
+#problems li.amber { border-color: var(--two); } .stale main { opacity: .45; } .warn { color: var(--two); font-weight: 700; }
 .ends { display: flex; justify-content: space-between; font-size: .8rem; }
 .wide { overflow-x: auto; } .wide:focus-visible { outline: 3px solid var(--one); }
 table { border-collapse: collapse; min-width: 100%; font-size: .88rem; }
@@ -48,26 +48,30 @@ button { font: inherit; padding: 2px 12px; color: inherit; background: var(--car
 button:focus-visible { outline: 3px solid var(--one); }
 </style></head><body>
 <header><h1>arrayd <span id='target' class='mono'></span></h1>
-<span id='well' role='status'>asking</span><span id='about' class='soft'></span>
+<span id='well' role='status'>asking</span><span id='about' class='soft'></span><span id='heard' class='soft'></span>
 <button id='pause' aria-pressed='false'>Pause</button></header>
-<ul id='problems' aria-live='polite'></ul>
+<ul id='problems' aria-live='polite' aria-label='What is wrong or degraded'></ul>
+<noscript><p>This page wants JavaScript. What it shows is in <a href='/status'>/status</a> as JSON, what is wrong in
+<a href='/health'>/health</a>, and what is measured in <a href='/metrics'>/metrics</a>.</p></noscript>
 <main>
-<section class='charts' id='charts' aria-label='The last ten minutes'></section>
-<h2>Units and their paths</h2><section class='grid' id='units'></section>
-<h2>Units</h2><div class='wide' tabindex='0' aria-label='Units'><table id='unit_table'></table></div>
+<section class='charts' id='charts' role='region' aria-label='The last ten minutes'></section>
+<h2>Units and their paths</h2><section class='grid' id='units' role='region' aria-label='Units and their paths'></section>
+<h2>Units</h2><div class='wide' tabindex='0' role='region' aria-label='Units'><table id='unit_table'></table></div>
+<h2>Calls that failed <span id='failure_count' class='soft'></span></h2>
+<div class='wide' tabindex='0' role='region' aria-label='Calls that failed'><table id='failure_table'></table></div>
 <h2>Sessions <span id='session_count' class='soft'></span></h2>
-<div class='wide' tabindex='0' aria-label='Sessions'><table id='session_table'></table></div>
+<div class='wide' tabindex='0' role='region' aria-label='Sessions'><table id='session_table'></table></div>
 <h2>Registrations <span id='registration_count' class='soft'></span></h2>
-<div class='wide' tabindex='0' aria-label='Registrations'><table id='registration_table'></table></div>
-<h2>Controllers and logins</h2><div class='wide' tabindex='0' aria-label='Controllers'><table id='controller_table'></table></div>
+<div class='wide' tabindex='0' role='region' aria-label='Registrations'><table id='registration_table'></table></div>
+<h2>Controllers and logins</h2><div class='wide' tabindex='0' role='region' aria-label='Controllers'><table id='controller_table'></table></div>
 </main>
 <script>
 'use strict';
-const EVERY = 2000, KEPT = 300, SVG = 'http://www.w3.org/2000/svg';
+const EVERY = 2000, PATIENCE = 5000, KEPT = 300, SVG = 'http://www.w3.org/2000/svg';
 const TYPES = { 0: 'none', 1: 'write exclusive', 3: 'exclusive access', 5: 'write exclusive, registrants only',
   6: 'exclusive access, registrants only', 7: 'write exclusive, all registrants', 8: 'exclusive access, all registrants' };
 const past = [];
-let before = null, paused = false;
+let before = null, paused = false, heard = null;
 const find = id => document.getElementById(id);
 // An element with a class, and within it texts, which are never read as HTML, and elements.
 function make(name, kind, ...within) {
@@ -97,6 +101,7 @@ function span(seconds) {
   const days = Math.floor(seconds / 86400), rest = new Date(seconds % 86400 * 1000).toISOString().slice(11, 19);
   return (days ? days + ' d ' : '') + rest;
 }
+const moment = seconds => new Date(seconds * 1000).toISOString().slice(0, 19).replace('T', ' ');
 const ago = seconds => seconds < 1 ? 'now' : seconds < 100 ? seconds.toFixed(0) + ' s ago' : span(seconds) + ' ago';
 const routes = view => view.units.flatMap(unit => unit.paths);
 function totals(view) {
@@ -107,14 +112,14 @@ function totals(view) {
   return { at: view.uptime_micros, buckets, one: by(1), two: by(2), read: sum(all.map(c => c.read_bytes)),
     written: sum(all.map(c => c.written_bytes)) };
 }
-// The bound of the bucket in which the slowest of this part of the commands lies.
+// The bound of the bucket in which the slowest of this part of the commands lies; behind the last one there is none.
 function bound(buckets, bounds, part) {
   const all = sum(buckets);
   let left = Math.ceil(all * part);
   if (!all) return null;
   for (let place = 0; place < buckets.length; place += 1) {
     left -= buckets[place];
-    if (left <= 0) return place < bounds.length ? bounds[place] : bounds[bounds.length - 1];
+    if (left <= 0) return place < bounds.length ? bounds[place] : 2 * bounds[bounds.length - 1];
   }
   return null;
 }
@@ -138,7 +143,7 @@ function line(values, height) {
   });
   return words;
 }
-function chart(title, names, keys, words, isLog) {
+function chart(title, names, keys, words, isLog, top = words) {
   const values = keys.map(key => past.map(point => point[key])), most = Math.max(1, ...values.flat().filter(Number.isFinite));
   const height = n => { const part = isLog ? Math.log(1 + n) / Math.log(1 + most) : n / most; return 116 - 110 * part; };
   const svg = drawn('svg', { viewBox: '0 0 600 120', preserveAspectRatio: 'none', role: 'img', 'aria-label': title });
@@ -146,7 +151,7 @@ function chart(title, names, keys, words, isLog) {
   values.forEach((numbers, place) => svg.append(drawn('path', { class: 'line' + place, d: line(numbers, height) })));
   const last = place => { const n = values[place].at(-1); return n === undefined || n === null ? 'none' : words(n); };
   const keysShown = names.map((name, place) => make('span', 'key line' + place, name + ' ', make('b', '', last(place))));
-  return make('div', 'card', make('h3', '', title, make('span', 'soft', ' up to ' + words(most))), svg,
+  return make('div', 'card', make('h3', '', title, make('span', 'soft', ' up to ' + top(most))), svg,
     make('div', 'soft ends', make('span', '', 'ten minutes ago'), make('span', '', 'now')), make('div', '', ...keysShown));
 }
 function wire(route) {
@@ -163,6 +168,8 @@ function healthOf(unit) {
   if (is.length === 0) return signed('good', unit.health);
   return signed(is.every(what => what === 'slow' || what === 'length_changed') ? 'warn' : 'bad', unit.health);
 }
+// A time of which the buckets alone are known.
+const within = bounds => micros => micros > bounds.at(-1) ? 'above ' + time(bounds.at(-1)) : 'at most ' + time(micros);
 function card(unit) {
   const [first, second] = unit.paths;
   const box = (number, name) => make('div', 'box ' + name + (unit.owner === number ? ' owns' : ''), 'controller ' + number,
@@ -178,6 +185,7 @@ function card(unit) {
     make('div', 'soft', unit.entries + ' entries in its history' + (unit.oldest_command_micros > 1e5 ? ', a command waits for '
       + time(unit.oldest_command_micros) : '')));
   const made = make('div', 'card', make('h3', '', 'Unit ' + unit.unit + ' ', make('span', 'mono soft', unit.disk)),
+    make('div', 'mono soft', 'WWID ' + unit.wwid + ', serial number ' + unit.serial),
     make('div', 'draw', box(1, 'one'), wire(first), make('div', 'box', 'unit ' + unit.unit), wire(second), box(2, 'two')),
     make('div', 'pair', ...rows), facts);
   made.dataset.unit = unit.unit;
@@ -187,15 +195,17 @@ function table(id, heads, rows) {
   const cell = (name, value, key) => { const made = make(name, typeof value === 'number' ? 'n' : '', value);
     if (key) made.dataset.key = key; return made; };
   const isNumber = key => rows.length > 0 && typeof rows[0][key] === 'number';
-  const head = make('tr', '', ...heads.map(([title, key]) => make('th', isNumber(key) ? 'n' : '', title)));
+  const titled = (title, key) => { const made = make('th', isNumber(key) ? 'n' : '', title); made.scope = 'col'; return made; };
+  const head = make('tr', '', ...heads.map(([title, key]) => titled(title, key)));
   const body = rows.map(row => make('tr', '', ...heads.map(([, key]) => cell('td', row[key] ?? '', key))));
   fill(id, make('thead', '', head), make('tbody', '', ...body));
 }
 function unitRow(unit) {
   const all = unit.paths.map(route => route.commands), of = key => sum(all.map(commands => commands[key]));
-  return { unit: unit.unit, owner: 'controller ' + unit.owner, commands: sum(all.flatMap(c => c.buckets)), read: of('read_bytes'),
-    written: of('written_bytes'), flushes: of('flushes'), conflicts: of('reservation_conflicts'), busy: of('busy'),
-    miscompares: sum(all.map(c => c.sense_keys[14])), checks: sum(all.flatMap(c => c.sense_keys)),
+  return { unit: unit.unit, owner: 'controller ' + unit.owner, commands: sum(all.flatMap(c => c.buckets)), read: bytes(of('read_bytes')),
+    written: bytes(of('written_bytes')), flushes: of('flushes'), conflicts: of('reservation_conflicts'), busy: of('busy'),
+    miscompares: sum(all.map(c => c.sense_keys[14])), refused: sum(all.map(c => c.sense_keys[5])),
+    checks: sum(all.flatMap(c => c.sense_keys)),
     failed: sum(unit.disk_failures.concat(unit.registration_failures).map(tally => tally.count)) };
 }
 // The registrations of all units, and the units of which they are not to be read now.
@@ -206,25 +216,46 @@ function registrationsOf(view) {
   const unread = view.units.filter(unit => unit.registrations === null).map(unit => unit.unit);
   return [rows, unread.length ? ', not to be read now: unit ' + unread.join(', ') : ''];
 }
+// What failed of all units, the last first.
+function failuresOf(view) {
+  const rows = view.units.flatMap(unit => unit.failures.map(one => ({ unit: unit.unit, ...one })));
+  rows.sort((one, other) => other.last - one.last);
+  return rows.map(one => ({ unit: one.unit, file: one.file, call: one.call, error: one.error, count: one.count,
+    began: moment(one.began), last: moment(one.last), over: one.ended === null ? 'no' : moment(one.ended) }));
+}
+// The state of all, beside the name and in the title.
+function tell(kind, words) {
+  fill('well', signed(kind, words));
+  document.title = (kind === 'good' ? '✔ ' : kind === 'warn' ? '⚠ ' : '✘ ') + words + ' - arrayd';
+}
+const isSelected = () => { const now = getSelection(); return now !== null && !now.isCollapsed; };
 function show(view) {
   remember(view);
+  heard = Date.now();
   document.body.classList.remove('stale');
   fill('target', view.target);
-  const wrong = view.problems.length;
-  fill('well', wrong ? signed('bad', wrong + ' wrong') : signed('good', 'well'));
+  const wrong = view.problems.length, less = view.degraded.length;
+  if (wrong) tell('bad', wrong + ' wrong'); else if (less) tell('warn', 'degraded'); else tell('good', 'well');
   fill('about', 'version ' + view.version + ', array ' + view.array + ', up ' + span(view.uptime_micros / 1e6));
-  fill('problems', ...view.problems.map(text => make('li', '', signed('bad', text))));
+  // What somebody has selected stays as it is.
+  if (isSelected()) return;
+  fill('problems', ...view.problems.map(text => make('li', '', signed('bad', text))),
+    ...view.degraded.map(text => make('li', 'amber', signed('warn', text))));
   fill('charts', chart('Commands', ['controller 1', 'controller 2'], ['one', 'two'], rate),
     chart('Bytes', ['read', 'written'], ['read', 'written'], n => bytes(n) + '/s'),
-    chart('Latency', ['median', '99 %'], ['middle', 'slow'], time, true));
+    chart('Latency', ['median', '99 %'], ['middle', 'slow'], within(view.bounds_micros), true, time));
   fill('units', ...view.units.map(card));
-  table('unit_table', [['unit', 'unit'], ['owner', 'owner'], ['commands', 'commands'], ['bytes read', 'read'],
-    ['bytes written', 'written'], ['flushes', 'flushes'], ['checks', 'checks'], ['miscompares', 'miscompares'],
-    ['conflicts', 'conflicts'], ['BUSY', 'busy'], ['failed calls', 'failed']], view.units.map(unitRow));
+  table('unit_table', [['unit', 'unit'], ['owner', 'owner'], ['commands', 'commands'], ['read', 'read'],
+    ['written', 'written'], ['flushes', 'flushes'], ['checks', 'checks'], ['refused', 'refused'], ['miscompares', 'miscompares'],
+    ['conflicts', 'conflicts'], ['BUSY', 'busy'], ['failed', 'failed']], view.units.map(unitRow));
+  const failures = failuresOf(view);
+  fill('failure_count', '(' + failures.length + ')');
+  table('failure_table', [['unit', 'unit'], ['file', 'file'], ['call', 'call'], ['error', 'error'], ['times', 'count'],
+    ['began (UTC)', 'began'], ['last (UTC)', 'last'], ['over (UTC)', 'over']], failures);
   fill('session_count', '(' + view.sessions.length + ')');
   table('session_table', [['initiator', 'initiator'], ['ISID', 'isid'], ['TSIH', 'tsih'], ['controller', 'controller'],
-    ['peer', 'peer'], ['type', 'kind'], ['since', 'begun'], ['last command', 'last'], ['commands', 'commands']],
-    view.sessions.map(session => ({ ...session, begun: new Date(session.since * 1000).toISOString().slice(0, 19).replace('T', ' '),
+    ['peer', 'peer'], ['type', 'kind'], ['since (UTC)', 'begun'], ['last command', 'last'], ['commands', 'commands']],
+    view.sessions.map(session => ({ ...session, begun: moment(session.since),
     last: session.last_command ? session.last_command + ', ' + ago(session.idle_micros / 1e6) : 'none' })));
   const [registrations, unread] = registrationsOf(view);
   fill('registration_count', '(' + registrations.length + unread + ')');
@@ -238,15 +269,16 @@ function show(view) {
 async function look() {
   if (!paused) {
     try {
-      const answer = await fetch('/status', { cache: 'no-store' });
+      const answer = await fetch('/status', { cache: 'no-store', signal: AbortSignal.timeout(PATIENCE) });
       show(await answer.json());
     } catch (_) {
-      fill('well', signed('bad', 'the array does not answer'));
+      tell('bad', 'the array does not answer');
       document.body.classList.add('stale');
     }
   }
   setTimeout(look, EVERY);
 }
+setInterval(() => fill('heard', heard === null ? '' : 'heard ' + ago((Date.now() - heard) / 1000) + (paused ? ', paused' : '')), 1000);
 find('pause').addEventListener('click', event => {
   paused = !paused;
   event.target.setAttribute('aria-pressed', paused);

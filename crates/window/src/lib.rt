@@ -20,10 +20,12 @@ pub use exposition::metrics;
 pub use handler::{Collector, Handler};
 pub use html::PAGE;
 pub use line::{Amount, Label, put_help, put_sample, put_type};
-pub use made::{failures, path, refusals, session, spelled};
+pub use made::{failures, named, path, refusals, session, spelled};
 pub use serving::open;
-pub use troubles::{Signs, Trouble, health, health_words, problems, trouble_tallies};
+pub use troubles::{
+    Signs, Trouble, degraded, failure_views, health, health_words, problems, trouble_tallies,
+};
 pub use view::{
-    ArrayView, Commands, Controller, NamedCount, PathView, Registration, SessionView, UnitView,
-    state_words,
+    ArrayView, Commands, Controller, FailureView, NamedCount, PathView, Registration, SessionView,
+    UnitView, state_words,
 };

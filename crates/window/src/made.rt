@@ -2,15 +2,25 @@
 
 use crate::view::{Commands, NamedCount, PathView, SessionView, state_words};
 use event_log::{
-    CALLS_IN_ORDER, CAUSES_IN_ORDER, Call, Counts, IN_ORDER, Operation, SessionSeen, Visit, escape,
+    CALLS_IN_ORDER, CAUSES_IN_ORDER, Call, Counts, Failures, IN_ORDER, Operation, SessionSeen,
+    SessionType, Visit, escape,
 };
 use std::alloc::{AllocError, Global};
+use std::str;
 
 /// A name as the log spells it.
 pub fn spelled(alloc: Global, name: &[u8]) -> Result<String, AllocError> {
     let mut text = String::new(alloc);
     escape(&mut text, name)?;
     Ok(text)
+}
+
+/// A name as it is; as the log spells it, where it is no UTF-8.
+pub fn named(alloc: Global, name: &[u8]) -> Result<String, AllocError> {
+    match str::from_utf8(name) {
+        Ok(text) => String::from_str(alloc, text),
+        Err(_) => spelled(alloc, name),
+    }
 }
 
 /// Names, and how often what has each was counted.
@@ -35,8 +45,15 @@ fn operations(alloc: Global, counts: &[u64]) -> Result<Vec<NamedCount>, AllocErr
 }
 
 /// Calls of the system that failed, and how often each did.
-pub fn failures(alloc: Global, counts: &[u64]) -> Result<Vec<NamedCount>, AllocError> {
-    tallies(alloc, &CALLS_IN_ORDER.map(Call::text), counts)
+pub fn failures(alloc: Global, calls: &[Failures]) -> Result<Vec<NamedCount>, AllocError> {
+    let mut tallies = Vec::new(alloc);
+    for (call, failures) in CALLS_IN_ORDER.iter().zip(calls) {
+        tallies.push(NamedCount {
+            what: call.text(),
+            count: failures.count,
+        })?;
+    }
+    Ok(tallies)
 }
 
 /// What was lacking where logins were refused, and how often each was.
@@ -80,7 +97,7 @@ pub fn path(
 // Puts the names of a session into what is seen of it.
 fn put_names(view: &mut SessionView, who: &Visit) -> Result<(), AllocError> {
     let (isid, portal, peer) = (who.isid, who.path.portal, who.path.from);
-    escape(&mut view.initiator, &who.name)?;
+    escape(&mut view.spelled, &who.name)?;
     write!(view.isid, "0x{isid:x}")?;
     write!(view.portal, "{portal}")?;
     write!(view.peer, "{peer}")
@@ -90,10 +107,12 @@ fn put_names(view: &mut SessionView, who: &Visit) -> Result<(), AllocError> {
 pub fn session(alloc: Global, seen: &SessionSeen) -> Result<SessionView, AllocError> {
     let who = &seen.who;
     let mut view = SessionView {
-        initiator: String::new(alloc),
+        initiator: named(alloc, &who.name)?,
+        spelled: String::new(alloc),
         isid: String::new(alloc),
         tsih: u64::from(who.tsih),
         kind: who.kind.text(),
+        is_discovery: matches!(who.kind, SessionType::Discovery),
         controller: u64::from(who.path.tag),
         portal: String::new(alloc),
         peer: String::new(alloc),

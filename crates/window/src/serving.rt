@@ -8,14 +8,17 @@ use std::hash::RandomState;
 use std::io::{self, ErrorKind, Read};
 use std::net::{Shutdown, TcpListener, TcpStream};
 use std::random::RandomSource;
-use std::sync::Arc;
-use std::sync::atomic::{AtomicU64, Ordering};
+use std::sync::{Arc, Mutex, Wait};
 use std::thread;
 use std::thread::{Builder, JoinHandle, Threads};
 use std::time::{Clock, Duration};
 
-/// So many connections are served at once; others are closed.
-const CONNECTIONS: u64 = 16;
+/// So many connections are served at once. Where one more comes, the oldest is closed: so nobody shuts others out by connections that
+/// say nothing.
+const CONNECTIONS: usize = 16;
+
+/// So many threads serve connections, with those whose connection was closed; where one more would be needed, it is closed at once.
+const THREADS: u64 = 64;
 
 /// So many milliseconds may a connection last, from its beginning to the last byte of its answer.
 const PATIENCE: u64 = 5000;
@@ -40,6 +43,56 @@ const CONFIG: Config = Config {
     max_pending: 0,
     read_size: 2048,
 };
+
+// A connection, of a number that no other has.
+#[derive(Drop)]
+struct Guest {
+    number: u64,
+    stream: Arc<TcpStream, Global>,
+}
+
+// The connections that are served, the oldest first; how many threads there are for them, and how many have begun.
+#[derive(Drop)]
+struct Guests {
+    served: Vec<Guest>,
+    threads: u64,
+    begun: u64,
+}
+
+type Door = Mutex<Guests>;
+
+impl Guests {
+    // None yet.
+    fn none(alloc: Global) -> Guests {
+        Guests {
+            served: Vec::new(alloc),
+            threads: 0,
+            begun: 0,
+        }
+    }
+
+    // Lets a connection in: its number. None: there are too many threads, or no memory.
+    fn admit(&mut self, stream: Arc<TcpStream, Global>) -> Option<u64> {
+        if self.threads >= THREADS {
+            return None;
+        }
+        if self.served.len() >= CONNECTIONS {
+            let oldest = self.served.remove(0);
+            let _ = oldest.stream.shutdown(Shutdown::Both);
+        }
+        let number = self.begun;
+        self.served.push(Guest { number, stream }).ok()?;
+        self.begun = number.wrapping_add(1);
+        self.threads = self.threads.saturating_add(1);
+        Some(number)
+    }
+
+    // The connection of this number has ended, and its thread.
+    fn leave(&mut self, number: u64) {
+        self.served.retain(|guest| guest.number != number);
+        self.threads = self.threads.saturating_sub(1);
+    }
+}
 
 // What is left of so many milliseconds that began then; TimedOut where that is no more than one, as a time of 0 is refused.
 fn left<R: Clock>(rt: &R, began: Duration, patience: u64) -> io::Result<Duration> {
@@ -146,69 +199,91 @@ fn attend<R: Clock + RandomSource, S: Collector>(
     finish(rt, stream)
 }
 
-// Serves a connection, and counts it off.
-fn work<R: Clock + RandomSource, S: Collector>(
+// Serves a connection, and lets it go.
+fn work<R: Clock + RandomSource + Wait, S: Collector>(
     rt: &R,
     alloc: Global,
     collector: &S,
-    busy: &AtomicU64,
+    door: &Door,
+    number: u64,
     stream: &TcpStream,
 ) {
     let _ = attend(rt, alloc, collector, stream);
-    let _ = busy.fetch_sub(1, Ordering::SeqCst);
+    door.lock(rt).leave(number);
 }
 
 // Starts the thread of a connection.
 fn start<
-    R: Threads + Clock + RandomSource + Clone + Drop + Send + 'static,
+    R: Threads + Clock + RandomSource + Wait + Clone + Drop + Send + 'static,
     S: Collector + Drop + Send + Sync + 'static,
 >(
     rt: &R,
     alloc: Global,
     collector: &Arc<S, Global>,
-    busy: &Arc<AtomicU64, Global>,
-    stream: TcpStream,
+    door: &Arc<Door, Global>,
+    number: u64,
+    stream: Arc<TcpStream, Global>,
 ) -> io::Result<()> {
     let collector = Arc::try_clone(collector)?;
-    let busy = Arc::try_clone(busy)?;
+    let door = Arc::try_clone(door)?;
     let mine = rt.clone()?;
-    let work = move || work::<R, S>(&mine, alloc, &collector, &busy, &stream);
+    let work = move || work::<R, S>(&mine, alloc, &collector, &door, number, &stream);
     let _thread: JoinHandle<()> = Builder::new().stack_size(STACK).spawn(rt, work)?;
     Ok(())
 }
 
-// Accepts connections, a thread each. Where there are too many, one is closed at once.
+// Serves a connection by a thread of its own, where it is let in.
+fn receive<
+    R: Threads + Clock + RandomSource + Wait + Clone + Drop + Send + 'static,
+    S: Collector + Drop + Send + Sync + 'static,
+>(
+    rt: &R,
+    alloc: Global,
+    collector: &Arc<S, Global>,
+    door: &Arc<Door, Global>,
+    stream: TcpStream,
+) -> io::Result<()> {
+    let stream = Arc::new(alloc, stream)?;
+    let Some(number) = door.lock(rt).admit(Arc::try_clone(&stream)?) else {
+        return Ok(());
+    };
+    let started = start(rt, alloc, collector, door, number, stream);
+    if started.is_err() {
+        door.lock(rt).leave(number);
+    }
+    started
+}
+
+// Accepts connections, a thread each.
 fn accept<
-    R: Threads + Clock + RandomSource + Clone + Drop + Send + 'static,
+    R: Threads + Clock + RandomSource + Wait + Clone + Drop + Send + 'static,
     S: Collector + Drop + Send + Sync + 'static,
 >(
     rt: &R,
     alloc: Global,
     listener: &TcpListener,
     collector: &Arc<S, Global>,
-    busy: &Arc<AtomicU64, Global>,
+    door: &Arc<Door, Global>,
 ) {
     for stream in listener.incoming() {
-        let Ok(stream) = stream else {
-            thread::sleep(rt, Duration::from_millis(REST));
-            continue;
-        };
-        let is_too_many = busy.fetch_add(1, Ordering::SeqCst) >= CONNECTIONS;
-        if is_too_many || start(rt, alloc, collector, busy, stream).is_err() {
-            let _ = busy.fetch_sub(1, Ordering::SeqCst);
+        match stream {
+            Ok(stream) => {
+                let _ = receive(rt, alloc, collector, door, stream);
+            }
+            Err(_) => thread::sleep(rt, Duration::from_millis(REST)),
         }
     }
 }
 
 /// Starts to answer, by what this collects, the connections that come to a socket that listens.
 pub fn open<
-    R: Threads + Clock + RandomSource + Clone + Drop + Send + 'static,
+    R: Threads + Clock + RandomSource + Wait + Clone + Drop + Send + 'static,
     S: Collector + Drop + Send + Sync + 'static,
 >(rt: &R, alloc: Global, listener: TcpListener, collector: S) -> io::Result<()> {
     let collector = Arc::new(alloc, collector)?;
-    let busy = Arc::new(alloc, AtomicU64::new(0))?;
+    let door = Arc::new(alloc, Mutex::new(Guests::none(alloc)))?;
     let mine = rt.clone()?;
-    let work = move || accept::<R, S>(&mine, alloc, &listener, &collector, &busy);
+    let work = move || accept::<R, S>(&mine, alloc, &listener, &collector, &door);
     let _thread: JoinHandle<()> = Builder::new().stack_size(STACK).spawn(rt, work)?;
     Ok(())
 }

@@ -1,9 +1,10 @@
 //! What is wrong with an array, in sentences.
 
 use crate::made::tallies;
-use crate::view::{ArrayView, NamedCount, UnitView};
-use event_log::{CALLS, Happenings};
+use crate::view::{ArrayView, Controller, FailureView, NamedCount, PathView, UnitView};
+use event_log::{CALLS_IN_ORDER, Call, Failures, Stamp, UnitHappenings, error_text};
 use std::alloc::{AllocError, Global};
+use std::time::Duration;
 
 /// A command that is served for so many microseconds waits for a disk that hangs.
 const HANGS: u64 = 10_000_000;
@@ -14,6 +15,20 @@ const SLOW: u64 = 1_000_000;
 /// Where calls are counted, the place of the flushes, which is the last one.
 const FLUSHES: usize = 4;
 
+/// The system's errors where there is no room: ENOSPC, and EDQUOT.
+const NO_ROOM: u64 = 28;
+
+const NO_QUOTA: u64 = 122;
+
+/// What is shown as the file and the call of failures.
+const DISK: &str = "disk";
+
+const REGISTRATIONS: &str = "registrations";
+
+const FLUSH: &str = "flush";
+
+const HUNG: &str = "hung";
+
 /// What may be wrong with a unit.
 #[derive(Clone, Copy)]
 pub enum Trouble {
@@ -21,9 +36,9 @@ pub enum Trouble {
     Hangs,
     /// A flush of its disk failed.
     FlushesLost,
-    /// Another call on its disk failed.
+    /// Another call on its disk failed, and none went well since.
     CallsFailed,
-    /// A registration could not be saved.
+    /// A registration could not be saved, and none was since.
     Unsaved,
     /// A command waits longer for its disk than one should.
     Slow,
@@ -59,15 +74,15 @@ impl Trouble {
         match self {
             Trouble::Hangs => "hangs",
             Trouble::FlushesLost => "flushes are lost",
-            Trouble::CallsFailed => "calls on it failed",
-            Trouble::Unsaved => "well, but registrations could not be saved",
+            Trouble::CallsFailed => "calls on it fail",
+            Trouble::Unsaved => "well, but registrations cannot be saved",
             Trouble::Slow => "slow",
             Trouble::Grew => "well, but longer than at the start",
         }
     }
 
-    // What is to be told of it where it is wrong, as the page of trouble says it.
-    fn sentence(self) -> Option<&'static str> {
+    // What is to be told of it where it is wrong, as the page of trouble says it, where this failed.
+    fn sentence(self, culprit: Option<&FailureView>) -> Option<&'static str> {
         match self {
             Trouble::Hangs => Some(
                 "A disk hangs: commands of its unit wait, or fail where `ARRAYD_DEADLINE` is set. Sessions that do not touch the unit \
@@ -77,82 +92,115 @@ impl Trouble {
                 "One flush failed, so what was written since the last good one may be lost. Taking the controller down does not heal \
                 it. Mend the disk, `quit`, start; hosts with a journal replay it.",
             ),
-            Trouble::CallsFailed => {
-                Some(
-                    "The disk failed. The system's log (`dmesg`) says why. Of a write that failed each block is old or new.",
-                )
-            }
-            Trouble::Unsaved => Some(
-                "The registration could not be saved, so it was not made. Reads and writes are not concerned. The log's first \
-                `device_failed` with `file=registrations` says which call failed.",
-            ),
+            Trouble::CallsFailed => Some(failed_sentence(culprit)),
+            Trouble::Unsaved => Some(unsaved_sentence(culprit)),
             Trouble::Slow | Trouble::Grew => None,
         }
+    }
+
+    // Whether it is these calls that make it so.
+    fn is_by(self, failure: &FailureView) -> bool {
+        let is_flush = failure.call == FLUSH;
+        let is_hung = failure.call == HUNG;
+        match self {
+            Trouble::Hangs => is_hung && failure.is_now,
+            Trouble::FlushesLost => is_flush && failure.file == DISK,
+            Trouble::CallsFailed => {
+                failure.is_now && failure.file == DISK && !is_flush && !is_hung
+            }
+            Trouble::Unsaved => failure.is_now && failure.file == REGISTRATIONS,
+            Trouble::Slow | Trouble::Grew => false,
+        }
+    }
+}
+
+// What is to be told of calls on a disk that failed.
+fn failed_sentence(culprit: Option<&FailureView>) -> &'static str {
+    let errno = culprit.map_or(0, |failure| failure.errno);
+    match errno {
+        NO_ROOM | NO_QUOTA => "The file system is full: make room.",
+        0 => "The disk became shorter than at the start, or its name is another's.",
+        _ => {
+            "The disk failed. The system's log (`dmesg`) says why. Of a write that failed each block is old or new."
+        }
+    }
+}
+
+// What is to be told of a registration that could not be saved.
+fn unsaved_sentence(culprit: Option<&FailureView>) -> &'static str {
+    let is_flush = match culprit {
+        Some(failure) => failure.call == FLUSH,
+        None => false,
+    };
+    if is_flush {
+        "Each later save fails too, so no node can be fenced at this unit: mend the disk, tell the array `quit`, and start it again."
+    } else {
+        "The registration could not be saved, so it was not made. Reads and writes are not concerned."
     }
 }
 
 /// What of a unit may be wrong.
 #[derive(Clone, Copy)]
-pub struct Signs {
+pub struct Signs<'a> {
     /// For how many microseconds its oldest command is served.
     pub oldest: u64,
-    /// Calls that took longer than the deadline, and files that became longer.
-    pub hung: u64,
-    pub grew: u64,
-    /// Calls that failed, on its disk and on its registration file.
-    pub disk: [u64; CALLS],
-    pub registrations: [u64; CALLS],
+    /// What was counted of it, where it was.
+    pub seen: Option<&'a UnitHappenings>,
 }
 
-// How often something happened, at this place.
-fn at(counts: &[u64], place: usize) -> u64 {
-    counts.get(place).copied().unwrap_or(0)
-}
-
-// Whether something was counted at a place before this one.
-fn any(counts: &[u64], before: usize) -> bool {
-    for (place, count) in counts.iter().enumerate() {
-        if place < before && *count != 0 {
+// Whether of calls of these kinds, those before a place, something failed, and nothing went well since.
+fn any_now(calls: &[Failures], before: usize) -> bool {
+    for (place, failures) in calls.iter().enumerate() {
+        if place < before && failures.is_now {
             return true;
         }
     }
     false
 }
 
-impl Signs {
-    /// What of the unit at this place may be wrong, whose oldest command is served for so many microseconds.
-    pub fn of(happened: &Happenings, place: usize, oldest: u64) -> Signs {
-        let none = [0; CALLS];
-        Signs {
-            oldest,
-            hung: at(&happened.hung, place),
-            grew: at(&happened.grew, place),
-            disk: *happened.disks.get(place).unwrap_or(&none),
-            registrations: *happened.registrations.get(place).unwrap_or(&none),
+// Whether a flush failed.
+fn lost(calls: &[Failures]) -> bool {
+    match calls.get(FLUSHES) {
+        Some(failures) => failures.count != 0,
+        None => false,
+    }
+}
+
+impl Signs<'_> {
+    // Whether this is so by what was counted.
+    fn show_counted(&self, seen: &UnitHappenings, trouble: Trouble) -> bool {
+        match trouble {
+            Trouble::Hangs => seen.hung.is_now,
+            Trouble::FlushesLost => lost(&seen.disk),
+            Trouble::CallsFailed => any_now(&seen.disk, FLUSHES),
+            Trouble::Unsaved => any_now(&seen.registrations, seen.registrations.len()),
+            Trouble::Slow => false,
+            Trouble::Grew => seen.grew != 0,
         }
     }
 
     // Whether this is so.
     fn show(&self, trouble: Trouble) -> bool {
-        match trouble {
-            Trouble::Hangs => self.hung != 0 || self.oldest >= HANGS,
-            Trouble::FlushesLost => at(&self.disk, FLUSHES) != 0,
-            Trouble::CallsFailed => any(&self.disk, FLUSHES),
-            Trouble::Unsaved => any(&self.registrations, CALLS),
+        let is_long = match trouble {
+            Trouble::Hangs => self.oldest >= HANGS,
             Trouble::Slow => self.oldest >= SLOW && self.oldest < HANGS,
-            Trouble::Grew => self.grew != 0,
+            _ => false,
+        };
+        match self.seen {
+            Some(seen) => is_long || self.show_counted(seen, trouble),
+            None => is_long,
         }
     }
 }
 
 /// What may be wrong with a unit: 1 where it is.
-pub fn trouble_tallies(alloc: Global, signs: &Signs) -> Result<Vec<NamedCount>, AllocError> {
+pub fn trouble_tallies(alloc: Global, signs: &Signs<'_>) -> Result<Vec<NamedCount>, AllocError> {
     let counts = ALL.map(|trouble| u64::from(signs.show(trouble)));
     tallies(alloc, &ALL.map(Trouble::name), &counts)
 }
 
 /// A disk's health in words.
-pub fn health_words(signs: &Signs) -> &'static str {
+pub fn health_words(signs: &Signs<'_>) -> &'static str {
     for trouble in &ALL {
         if signs.show(*trouble) {
             return trouble.health();
@@ -161,27 +209,112 @@ pub fn health_words(signs: &Signs) -> &'static str {
     "well"
 }
 
-// Notes a sentence about the unit of this number.
+// Failures as they are shown, by a clock that began so many microseconds after the beginning of 1970.
+fn failure_view(
+    origin: u64,
+    file: &'static str,
+    call: &'static str,
+    failures: &Failures,
+) -> FailureView {
+    let second = |micros: u64| origin.saturating_add(micros) / 1_000_000;
+    FailureView {
+        file,
+        call,
+        count: failures.count,
+        is_now: failures.is_now,
+        began: second(failures.began),
+        last: second(failures.last),
+        ended: if failures.is_now {
+            None
+        } else {
+            Some(second(failures.ended))
+        },
+        errno: u64::from(failures.error),
+        error: error_text(failures.error),
+    }
+}
+
+// Those of a file that there were.
+fn note_failures(
+    views: &mut Vec<FailureView>,
+    origin: u64,
+    file: &'static str,
+    calls: &[Failures],
+) -> Result<(), AllocError> {
+    for (call, failures) in CALLS_IN_ORDER.map(Call::text).iter().zip(calls) {
+        if failures.count != 0 {
+            views.push(failure_view(origin, file, *call, failures))?;
+        }
+    }
+    Ok(())
+}
+
+/// What failed of a unit, also what is over, by a clock that began so many microseconds after the beginning of 1970.
+pub fn failure_views(
+    alloc: Global,
+    origin: u64,
+    seen: &UnitHappenings,
+) -> Result<Vec<FailureView>, AllocError> {
+    let mut views = Vec::new(alloc);
+    note_failures(&mut views, origin, DISK, &seen.disk)?;
+    note_failures(&mut views, origin, REGISTRATIONS, &seen.registrations)?;
+    if seen.hung.count != 0 {
+        views.push(failure_view(origin, DISK, HUNG, &seen.hung))?;
+    }
+    Ok(views)
+}
+
+// Puts a moment behind a text.
+fn put_second(text: &mut String, what: &str, second: u64) -> Result<(), AllocError> {
+    text.push_str(what)?;
+    Stamp::of(Duration::from_secs(second)).put(text)
+}
+
+// Puts what failed behind a sentence, by the words of the log.
+fn put_failure(text: &mut String, failure: &FailureView) -> Result<(), AllocError> {
+    let (call, error, count) = (failure.call, failure.error, failure.count);
+    write!(text, " call={call} error={error} count={count}")?;
+    put_second(text, " began=", failure.began)?;
+    put_second(text, " last=", failure.last)
+}
+
+// What makes this so of a unit, where calls do.
+fn culprit(unit: &UnitView, trouble: Trouble) -> Option<&FailureView> {
+    for failure in &unit.failures {
+        if trouble.is_by(failure) {
+            return Some(failure);
+        }
+    }
+    None
+}
+
+// Notes a sentence about the unit of this number, and what failed.
 fn note(
     alloc: Global,
     problems: &mut Vec<String>,
     number: u64,
     sentence: &str,
+    culprit: Option<&FailureView>,
 ) -> Result<(), AllocError> {
-    problems.push(format!(in alloc; "unit {number}: {sentence}")?)?;
+    let mut text = format!(in alloc; "unit {number}: {sentence}")?;
+    if let Some(failure) = culprit {
+        put_failure(&mut text, failure)?;
+    }
+    problems.push(text)?;
     Ok(())
 }
 
 // Notes what is wrong with a unit.
 fn of_unit(alloc: Global, problems: &mut Vec<String>, unit: &UnitView) -> Result<(), AllocError> {
     if unit.owner != 1 && unit.owner != 2 {
-        note(alloc, problems, unit.unit, "no controller owns it")?;
+        note(alloc, problems, unit.unit, "no controller owns it", None)?;
     }
     for (trouble, tally) in ALL.iter().zip(&unit.troubles) {
+        let culprit = culprit(unit, *trouble);
         if tally.count != 0
-            && let Some(sentence) = trouble.sentence()
+            && let Some(sentence) = trouble.sentence(culprit)
         {
-            note(alloc, problems, unit.unit, sentence)?;
+            note(alloc, problems, unit.unit, sentence, culprit)?;
         }
     }
     Ok(())
@@ -213,11 +346,75 @@ pub fn problems(
     Ok(problems)
 }
 
-/// What is answered to who asks whether an array is well: `ok`, or a line for each thing that is wrong.
+// Whether a controller is down.
+fn is_down(controllers: &[Controller], number: u64) -> bool {
+    for controller in controllers {
+        if controller.controller == number {
+            return controller.is_down;
+        }
+    }
+    false
+}
+
+// Notes a path to a unit by which it is not served, though its controller serves others.
+fn note_path(
+    alloc: Global,
+    degraded: &mut Vec<String>,
+    unit: u64,
+    path: &PathView,
+) -> Result<(), AllocError> {
+    let (controller, state) = (path.controller, path.state_words);
+    let text = format!(in alloc; "unit {unit} is not served by controller {controller}: {state}")?;
+    degraded.push(text)?;
+    Ok(())
+}
+
+// Notes the paths to a unit by which it is not served, but for those of a controller that is down.
+fn note_paths(
+    alloc: Global,
+    degraded: &mut Vec<String>,
+    unit: &UnitView,
+    controllers: &[Controller],
+) -> Result<(), AllocError> {
+    for path in &unit.paths {
+        if !path.is_served() && !is_down(controllers, path.controller) {
+            note_path(alloc, degraded, unit.unit, path)?;
+        }
+    }
+    Ok(())
+}
+
+/// What is served, but by less than there is, a sentence each.
+pub fn degraded(
+    alloc: Global,
+    units: &[UnitView],
+    controllers: &[Controller],
+) -> Result<Vec<String>, AllocError> {
+    let mut degraded = Vec::new(alloc);
+    for controller in controllers {
+        if controller.is_down {
+            let number = controller.controller;
+            degraded.push(format!(in alloc;
+                "controller {number} is down: no unit is served by it"
+            )?)?;
+        }
+    }
+    for unit in units {
+        note_paths(alloc, &mut degraded, unit, controllers)?;
+    }
+    Ok(degraded)
+}
+
+/// What is answered to who asks whether an array is well: `ok`, or a line for each thing that is wrong, and for each that is degraded.
 pub fn health(alloc: Global, view: &ArrayView) -> Result<String, AllocError> {
     let mut text = String::new(alloc);
     for problem in &view.problems {
         text.push_str(problem.as_str())?;
+        text.push_str("\n")?;
+    }
+    for line in &view.degraded {
+        text.push_str("degraded: ")?;
+        text.push_str(line.as_str())?;
         text.push_str("\n")?;
     }
     if text.is_empty() {

@@ -41,8 +41,9 @@ pub struct PathView {
 /// A registration, as READ FULL STATUS tells it (SPC-4, 6.15.5).
 #[derive(Drop)]
 pub struct Registration {
-    /// The InitiatorName, as the log spells names.
+    /// The InitiatorName; and as the log spells names.
     pub initiator: String,
+    pub spelled: String,
     /// The ISID and the reservation key, in hexadecimal.
     pub isid: String,
     pub key: String,
@@ -51,6 +52,24 @@ pub struct Registration {
     pub is_holder: bool,
     /// The type of the reservation that it holds (SPC-4, table 56), or 0.
     pub reservation_type: u64,
+}
+
+/// Calls of one kind on a file of a unit that failed. Times are seconds after the beginning of 1970.
+#[derive(Drop)]
+pub struct FailureView {
+    /// `disk` or `registrations`; the call, or `hung` for one that took longer than the deadline.
+    pub file: &'static str,
+    pub call: &'static str,
+    pub count: u64,
+    /// Nothing of the kind has gone well since.
+    pub is_now: bool,
+    /// When the first one failed since all was well, when the last one did, and when it went well again.
+    pub began: u64,
+    pub last: u64,
+    pub ended: Option<u64>,
+    /// The system's error of the last one, 0 where it told none, and its name.
+    pub errno: u64,
+    pub error: &'static str,
 }
 
 /// A unit.
@@ -68,7 +87,12 @@ pub struct UnitView {
     pub registrations: Option<Vec<Registration>>,
     /// How many entries its history has.
     pub entries: u64,
-    /// Its disk and its registration file, as the log spells names.
+    /// By which hosts know it: the designator of type NAA and the serial number of its vital product data (SPC-4, 7.8), in hexadecimal
+    /// and as text; and what dm-multipath makes of the first one.
+    pub naa: String,
+    pub serial: String,
+    pub wwid: String,
+    /// The names of its disk and of its registration file.
     pub disk: String,
     pub registration_file: String,
     /// How many blocks its disk has.
@@ -77,9 +101,13 @@ pub struct UnitView {
     pub health: &'static str,
     /// What may be wrong with it: 1 where it is.
     pub troubles: Vec<NamedCount>,
+    /// What failed, also what is over.
+    pub failures: Vec<FailureView>,
     /// Calls of the system that failed.
     pub disk_failures: Vec<NamedCount>,
     pub registration_failures: Vec<NamedCount>,
+    /// How many of its files had a call that took longer than the deadline.
+    pub hung: u64,
     /// For how long the oldest command is served.
     pub oldest_command_micros: u64,
     pub paths: Vec<PathView>,
@@ -88,12 +116,14 @@ pub struct UnitView {
 /// A session.
 #[derive(Drop)]
 pub struct SessionView {
-    /// The InitiatorName, as the log spells names.
+    /// The InitiatorName; and as the log spells names.
     pub initiator: String,
+    pub spelled: String,
     /// The ISID, in hexadecimal.
     pub isid: String,
     pub tsih: u64,
     pub kind: &'static str,
+    pub is_discovery: bool,
     pub controller: u64,
     pub portal: String,
     pub peer: String,
@@ -110,8 +140,12 @@ pub struct SessionView {
 #[derive(Drop)]
 pub struct Controller {
     pub controller: u64,
+    /// No unit is served by it.
+    pub is_down: bool,
     pub portals: Vec<String>,
     pub sessions: u64,
+    /// Those of them that are discovery sessions.
+    pub discoveries: u64,
 }
 
 /// An array.
@@ -130,8 +164,16 @@ pub struct ArrayView {
     pub refused_logins: Vec<NamedCount>,
     /// The longest times of the buckets of times.
     pub bounds_micros: Vec<u64>,
-    /// What is wrong, a sentence each.
+    /// What is wrong, a sentence each; and what is served, but by less than there is.
     pub problems: Vec<String>,
+    pub degraded: Vec<String>,
+}
+
+impl PathView {
+    /// Whether READ and WRITE are served by it (SPC-4, 5.15.2.4): active/optimized, or active/non-optimized.
+    pub fn is_served(&self) -> bool {
+        self.state < 2
+    }
 }
 
 /// An access state in words.

@@ -1,0 +1,189 @@
+//! One who asks a thread, and waits for the answer.
+ghost use Rattle.std.specs.Prelude.{◌≡◌, ◌+◌, IfOk, IfSome, Some, false};
+ghost use Rattle.std.specs.Arc.{arc_value};
+
+use crate::hatch::{Asked, Hatch, Looks, OVER, Runner};
+use crate::watch::Watch;
+use event_log::Call;
+use std::alloc::Global;
+use std::sync::atomic::Ordering;
+use std::sync::{Arc, Wait};
+use std::thread::{Builder, JoinHandle, Threads};
+use std::time::Clock;
+use std::{io, mem};
+
+/// What the stack of the thread takes.
+const STACK: usize = 256 * 1024;
+
+/// How often one who asked looks for the answer before it sleeps, and the thread for what is asked: some 20 and 80 microseconds.
+const FOR_ANSWERS: u32 = 10_000;
+
+pub(crate) const FOR_ERRANDS: u32 = 40_000;
+
+/// The right to ask once, under this number.
+#[derive(Drop)]
+pub(crate) struct Turn {
+    pub(crate) serial: u64,
+}
+
+/// One who asks, by a thread of its own. The errand is the right to ask: whoever has waited for one in vain has none until it comes back.
+pub(crate) struct Asker<R: Wait + Clock + Drop, E: Asked> {
+    rt: R,
+    hatch: Arc<Hatch<E>, Global>,
+    watch: Arc<Watch, Global>,
+    looks: Looks,
+    errand: Option<E>,
+    // The number of what was asked last.
+    asked: u64,
+    // Whether a call that was given up has come back, of which nobody was told.
+    is_late: bool,
+}
+
+impl<R: Wait + Clock + Drop, E: Asked> Drop for Asker<R, E> {
+    fn drop(self) {
+        self.hatch.turn.store(OVER, Ordering::Release);
+        self.hatch.turn.wake_all();
+        let Self {
+            rt: _,
+            hatch: _,
+            watch: _,
+            looks: _,
+            errand: _,
+            asked: _,
+            is_late: _,
+        } = self;
+    }
+}
+
+impl<R: Threads + Wait + Clock + Clone + Drop + Send + 'static, E: Asked + Send + 'static> Asker<
+    R,
+    E,
+> {
+    /// Starts the thread that runs what is asked, by this errand, of a file that is watched.
+    pub(crate) fn start<W: Runner<E> + Drop + Send + 'static>(
+        rt: &R,
+        alloc: Global,
+        runner: W,
+        errand: E,
+        watch: &Arc<Watch, Global>,
+    ) -> io::Result<Asker<R, E>>
+        ensures { IfOk result (λ a. arc_value a.watch ≡ arc_value watch.now) }
+    {
+        Asker::start_looking(rt, alloc, runner, errand, watch, FOR_ERRANDS)
+    }
+
+    /// The same; the thread looks so often for what is asked before it sleeps.
+    pub(crate) fn start_looking<W: Runner<E> + Drop + Send + 'static>(
+        rt: &R,
+        alloc: Global,
+        runner: W,
+        errand: E,
+        watch: &Arc<Watch, Global>,
+        most: u32,
+    ) -> io::Result<Asker<R, E>>
+        ensures { IfOk result (λ a. arc_value a.watch ≡ arc_value watch.now) }
+    {
+        let hatch = Arc::new(alloc, Hatch::new())?;
+        let theirs = Arc::try_clone(&hatch)?;
+        let (watch, watched) = (Arc::try_clone(watch)?, Arc::try_clone(watch)?);
+        let (mine, other) = (rt.clone()?, rt.clone()?);
+        let mut runner = runner;
+        let work = move || theirs.serve(&other, &watched, &mut runner, most);
+        let _thread: JoinHandle<()> = Builder::new().stack_size(STACK).spawn(rt, work)?;
+        Ok(Asker {
+            rt: mine,
+            hatch,
+            watch,
+            looks: Looks::up_to(FOR_ANSWERS),
+            errand: Some(errand),
+            asked: 0,
+            is_late: false,
+        })
+    }
+}
+
+impl<R: Wait + Clock + Drop, E: Asked> Asker<R, E> {
+    /// What all share that ask calls of the file.
+    pub(crate) fn watch(&self) -> &Watch {
+        &self.watch
+    }
+
+    /// Whether the thread still has something to do behind an answer.
+    pub(crate) fn goes_on(&self) -> bool {
+        self.hatch.goes_on.load(Ordering::Acquire)
+    }
+
+    /// Takes the errand in hand, to say what is asked, and the right to ask it under the next number. None: a call of the file hangs.
+    pub(crate) fn take(&mut self) -> Option<(Turn, E)>
+        ensures next { IfSome result (λ t. (t.0.serial ≡ self.old.asked + 1) × (self.new.asked ≡ self.old.asked + 1)) }
+    {
+        if self.watch.is_hung() {
+            return None;
+        }
+        let serial = self.asked.checked_add(1)?;
+        let errand = match self.errand.take() {
+            Some(errand) => errand,
+            None => {
+                let late = self.hatch.take_late(&self.rt)?;
+                self.is_late = true;
+                late
+            }
+        };
+        self.asked = serial;
+        Some((Turn { serial }, errand))
+    }
+
+    /// Whether a call that was given up has come back; it is told once.
+    pub(crate) fn has_come_late(&mut self) -> bool
+        ensures told { result ≡ self.old.is_late }
+        ensures once { (self.new.is_late ≡ false) × (self.new.errand ≡ self.old.errand) × (self.new.asked ≡ self.old.asked) }
+    {
+        mem::replace(&mut self.is_late, false)
+    }
+
+    /// Keeps the errand for the next time.
+    pub(crate) fn keep(&mut self, errand: E)
+        ensures { (self.new.errand ≡ Some errand) × (self.new.asked ≡ self.old.asked) }
+    {
+        self.errand = Some(errand);
+    }
+
+    // Whether it is answered in time, while one sleeps. Else it hangs, from now on until it comes back.
+    fn is_done(&self, serial: u64, call: Call) -> bool {
+        self.watch.sleep();
+        if self
+            .hatch
+            .is_answered_in_time(&self.rt, &self.watch, serial, call)
+        {
+            return true;
+        }
+        self.watch.hang(&self.rt, call);
+        if self.hatch.give_up() {
+            return false;
+        }
+        self.watch.come_back(&self.rt, call);
+        true
+    }
+
+    /// Asks, by the right to it, and waits for the answer to this and to nothing before. None: it has not come in time; then there is no
+    /// errand until it comes.
+    pub(crate) fn ask(&mut self, turn: Turn, errand: E) -> Option<E>
+        requires { E.serial errand ≡ turn.serial }
+        ensures answered { IfSome result (λ e. E.serial e ≡ turn.serial) }
+        ensures same { (self.new.errand ≡ self.old.errand) × (self.new.asked ≡ self.old.asked) }
+    {
+        let (serial, call) = (turn.serial, errand.call());
+        let looks = self.looks.next();
+        let is_soon = self.hatch.is_done_soon(&self.rt, errand, looks);
+        self.looks.learn(looks, is_soon);
+        if !is_soon && !self.is_done(serial, call) {
+            return None;
+        }
+        let answered = self.hatch.take(&self.rt)?;
+        if answered.serial() == serial {
+            Some(answered)
+        } else {
+            None
+        }
+    }
+}

@@ -1,0 +1,73 @@
+//! The one deadline of a login.
+
+use crate::connection::Connection;
+use session::{Source, Unread};
+use std::time::{Clock, Duration};
+
+/// A source whose connection ends where its login is not over in time, however often bytes come until then.
+pub struct LimitedSource<'a, R: Clock, S, C: Connection> {
+    inner: S,
+    rt: &'a R,
+    connection: &'a C,
+    // By the clock, where it tells anything.
+    began: Option<Duration>,
+    // In seconds.
+    limit: u64,
+}
+
+impl<R: Clock, S: Drop, C: Connection> Drop for LimitedSource<'_, R, S, C> {
+    fn drop(self) {
+        let Self {
+            inner: _,
+            rt: _,
+            connection: _,
+            began: _,
+            limit: _,
+        } = self;
+    }
+}
+
+impl<'a, R: Clock, S, C: Connection> LimitedSource<'a, R, S, C> {
+    /// The source of a connection whose login begins now, and has so many seconds.
+    pub fn new(inner: S, rt: &'a R, connection: &'a C, limit: u64) -> LimitedSource<'a, R, S, C> {
+        LimitedSource {
+            inner,
+            rt,
+            connection,
+            began: rt.monotonic().ok(),
+            limit,
+        }
+    }
+
+    // How many seconds are left, begun ones with them.
+    fn left(&self) -> u64 {
+        match (self.began, self.rt.monotonic()) {
+            (Some(began), Ok(now)) => self
+                .limit
+                .saturating_sub(now.saturating_sub(began).as_secs()),
+            _ => self.limit,
+        }
+    }
+
+    // The next read of the login waits for what is left of its time; where nothing is, the connection ends.
+    fn hurry(&self) {
+        match self.left() {
+            0 => self.connection.shut(),
+            left => self.connection.limit(left),
+        }
+    }
+}
+
+impl<R: Clock, S: Source, C: Connection> Source for LimitedSource<'_, R, S, C> {
+    ghost left = { λ s. S.left s.inner };
+
+    ghost failures = { λ s. S.failures s.inner };
+
+    fn read_some(&mut self, buf: &mut [u8], may_be_silent: bool) -> Result<usize, Unread> {
+        // Only a login may not be silent.
+        if !may_be_silent {
+            self.hurry();
+        }
+        self.inner.read_some(buf, may_be_silent)
+    }
+}

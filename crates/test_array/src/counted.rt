@@ -1,0 +1,214 @@
+//! What is counted of an array, and when what failed is over.
+use crate::ends::must;
+use event_log::{
+    CALLS_IN_ORDER, Call, Counts, Ended, Event, Failures, Happenings, Log, Meters, Operation, Part,
+    Place, Served, UnitHappenings,
+};
+use std::alloc::{AllocError, Global};
+use std::sync::{Arc, Wait};
+use std::test::*;
+use std::time::Duration;
+
+/// What happens to files of a unit.
+#[derive(Clone, Copy)]
+enum Step {
+    Hangs(u8),
+    Grows(u8),
+    /// A call on a disk fails, on a registration file, with this error.
+    Fails(u8, Call),
+    FailsToSave(u8, Call),
+    /// A read of the blocks 8 to 11 of a disk fails.
+    FailsToRead(u8),
+    /// So many blocks from one on are read.
+    Reads(u8, u32, u32),
+    /// A flush goes well that began when so many writes had failed.
+    Flushes(u8, u64),
+    /// An open of a disk goes well; one of a registration file.
+    Opens(u8),
+    Saves(u8),
+    Acknowledged,
+}
+
+use Step::{
+    Acknowledged, Fails, FailsToRead, FailsToSave, Flushes, Grows, Hangs, Opens, Reads, Saves,
+};
+
+const NOWHERE: Place = Place { first: 0, count: 0 };
+
+const THERE: Place = Place { first: 8, count: 4 };
+
+fn tell_failure(log: &Log, unit: u8, part: Part, call: Call, place: Place) {
+    log.note(&Event::DeviceFailed(unit, part, call, place, 5));
+}
+
+// What is well since it was counted is over.
+fn end_all(log: &Log, unit: u8, part: Part, call: Call) {
+    log.end(unit, part, call, log.failed(unit, part, call));
+}
+
+fn make(log: &Log, step: Step) {
+    match step {
+        Hangs(unit) => log.note(&Event::Hung(unit, Part::Disk, Call::Write)),
+        Grows(unit) => log.note(&Event::Grew(unit, Part::Disk)),
+        Fails(unit, call) => tell_failure(log, unit, Part::Disk, call, NOWHERE),
+        FailsToSave(unit, call) => tell_failure(log, unit, Part::Registrations, call, NOWHERE),
+        FailsToRead(unit) => tell_failure(log, unit, Part::Disk, Call::Read, THERE),
+        Reads(unit, first, count) => log.read(unit, Part::Disk, Place { first, count }),
+        Flushes(unit, count) => log.end(unit, Part::Disk, Call::Write, count),
+        Opens(unit) => end_all(log, unit, Part::Disk, Call::Open),
+        Saves(unit) => end_all(log, unit, Part::Registrations, Call::Open),
+        Acknowledged => {
+            if let Some(meters) = log.meters() {
+                meters.acknowledge();
+            }
+        }
+    }
+}
+
+// Puts what failed of a kind behind a text, where something did.
+fn put(
+    text: &mut String,
+    unit: usize,
+    what: &str,
+    call: &str,
+    failures: &Failures,
+) -> Result<(), AllocError> {
+    if failures.count == 0 {
+        return Ok(());
+    }
+    let (count, when) = (failures.count, if failures.is_now { "now" } else { "over" });
+    write!(text, "{unit} {what} {call} {count} {when};")
+}
+
+// The same of all calls on a file.
+fn put_file(
+    text: &mut String,
+    unit: usize,
+    what: &str,
+    calls: &[Failures],
+) -> Result<(), AllocError> {
+    for (call, failures) in CALLS_IN_ORDER.iter().zip(calls) {
+        put(text, unit, what, call.text(), failures)?;
+    }
+    Ok(())
+}
+
+fn put_unit(text: &mut String, unit: usize, seen: &UnitHappenings) -> Result<(), AllocError> {
+    put_file(text, unit, "disk", &seen.disk)?;
+    put_file(text, unit, "file", &seen.registrations)?;
+    put(text, unit, "call", "hung", &seen.hung)?;
+    let grew = seen.grew;
+    if grew != 0 {
+        write!(text, "{unit} grew {grew};")?;
+    }
+    Ok(())
+}
+
+fn text_of(alloc: Global, seen: &Happenings) -> Result<String, AllocError> {
+    let mut text = String::new(alloc);
+    for (unit, seen) in seen.units.iter().enumerate() {
+        put_unit(&mut text, unit, seen)?;
+    }
+    Ok(text)
+}
+
+// What is seen of two units behind these steps.
+fn seen_behind<R: Wait>(rt: &R, alloc: Global, steps: &[Step]) -> Result<String, Fail> {
+    let meters = Arc::new(alloc, Meters::new(alloc, 2)?)?;
+    let log = Log::off().counting(meters);
+    for step in steps {
+        make(&log, *step);
+    }
+    match log.meters() {
+        Some(meters) => {
+            let seen = meters.look(rt, alloc, Duration::ZERO)?;
+            Ok(text_of(alloc, &seen.happened)?)
+        }
+        None => Ok(String::new(alloc)),
+    }
+}
+
+#[test]
+fn what_failed_is_over_by_what_went_well(rt: HostRuntime) -> Result<(), Fail> {
+    let rows: [(&[Step], &str); 17] = [
+        (&[], ""),
+        // Of its own unit, and no growth.
+        (&[Hangs(1)], "1 call hung 1 now;"),
+        (&[Grows(1), Grows(1)], "1 grew 2;"),
+        (&[Fails(1, Call::Write)], "1 disk write 1 now;"),
+        (&[FailsToSave(0, Call::Write)], "0 file write 1 now;"),
+        (
+            &[Fails(0, Call::Write), Flushes(0, 1)],
+            "0 disk write 1 over;",
+        ),
+        (
+            &[Fails(0, Call::Write), Flushes(1, 1)],
+            "0 disk write 1 now;",
+        ),
+        // A flush that began before says nothing of it.
+        (
+            &[Fails(0, Call::Write), Fails(0, Call::Write), Flushes(0, 1)],
+            "0 disk write 2 now;",
+        ),
+        (
+            &[Fails(0, Call::Write), Flushes(0, 1), Fails(0, Call::Write)],
+            "0 disk write 2 now;",
+        ),
+        (
+            &[Fails(0, Call::Flush), Flushes(0, 1), Acknowledged],
+            "0 disk flush 1 now;",
+        ),
+        // All of its blocks.
+        (&[FailsToRead(0), Reads(0, 8, 3)], "0 disk read 1 now;"),
+        (&[FailsToRead(0), Reads(0, 9, 8)], "0 disk read 1 now;"),
+        (&[FailsToRead(0), Reads(1, 8, 4)], "0 disk read 1 now;"),
+        (&[FailsToRead(0), Reads(0, 0, 12)], "0 disk read 1 over;"),
+        (&[Fails(0, Call::Open), Saves(0)], "0 disk open 1 now;"),
+        (&[Fails(0, Call::Open), Opens(0)], "0 disk open 1 over;"),
+        (
+            &[
+                Fails(0, Call::Read),
+                FailsToSave(1, Call::Open),
+                Hangs(0),
+                Acknowledged,
+            ],
+            "0 disk read 1 over;0 call hung 1 now;1 file open 1 over;",
+        ),
+    ];
+    for (steps, wanted) in &rows {
+        let told = seen_behind(&rt, rt.alloc(), steps)?;
+        must(&rt, told.as_str() == *wanted, wanted, &told);
+    }
+    Ok(())
+}
+
+// What is counted of a WRITE with FUA that ended so: good, conflicts, busy, medium errors, flushes that failed.
+fn counted(alloc: Global, ended: Ended) -> Result<String, AllocError> {
+    let mut counts = Counts::none();
+    counts.count(&Served {
+        operation: Operation::Write,
+        ended,
+        read: 0,
+        written: 512,
+        flushes: true,
+    });
+    let (good, conflicts, busy) = (counts.good, counts.conflicts, counts.busy);
+    let (checks, lost) = (counts.checks[3], counts.failed_flushes);
+    format!(in alloc; "{good} {conflicts} {busy} {checks} {lost}")
+}
+
+#[test]
+fn commands_are_counted_as_they_ended(rt: HostRuntime) -> Result<(), Fail> {
+    let rows = [
+        (Ended::Good, "1 0 0 0 0"),
+        (Ended::Conflict, "0 1 0 0 0"),
+        (Ended::Busy, "0 0 1 0 0"),
+        (Ended::Check(3), "0 0 0 1 1"),
+        (Ended::Check(5), "0 0 0 0 0"),
+    ];
+    for (ended, wanted) in &rows {
+        let told = counted(rt.alloc(), *ended)?;
+        must(&rt, told.as_str() == *wanted, wanted, &told);
+    }
+    Ok(())
+}

@@ -1,0 +1,269 @@
+//! The product's units behind what tests see of an array. Its calls are made here, once for all tests.
+ghost use Rattle.std.specs.Prelude.{◌<◌, ◌≤◌, IfSome, length};
+ghost use Rattle.unit_history.specs.Naming.{IsNamed};
+
+use crate::any_array::{Array, End};
+use crate::script::{Asks, command_of};
+use crate::tales::{Tale, happens};
+use array_units::Units;
+use block_file::{Blocks, MemBlocks, Opener, ReplyMemory};
+use failover::{Mover, set_groups, take_down};
+use forwarding::{Desk, DeskFault, Ticket};
+use scsi_types::{Command, Group, PortName, Reply, Status};
+use status::Row;
+use std::alloc::Global;
+use std::sync::Wait;
+use std::test::Fail;
+use std::thread::Threads;
+use unit_history::{NewUnit, Opened, Pass, Refused};
+use unit_sequence::Namings;
+use unit_state::MoveFault;
+
+fn end_of(reply: &Reply) -> End {
+    match (reply.status(), reply.sense()) {
+        (Status::Good, _) => End::Good,
+        (Status::ReservationConflict, _) => End::Conflict,
+        (_, Some(sense)) => End::Check(sense),
+        (_, None) => End::Nobody,
+    }
+}
+
+fn end_by(why: Refused<Group>) -> End {
+    match why {
+        Refused::Gone => End::Gone,
+        Refused::Moved(owner) => End::Moved(owner),
+        Refused::NoMemory => End::NoMemory,
+    }
+}
+
+fn end_at(fault: DeskFault) -> End {
+    match fault {
+        DeskFault::Full => End::Full,
+        DeskFault::Closed => End::Closed,
+        DeskFault::NoMemory => End::NoMemory,
+    }
+}
+
+/// Units that threads share, whose registration files lie in memory, and the desk of their first controller.
+#[derive(Drop)]
+struct Shared<W: Wait + Drop, B: Blocks, O: Opener<B>, N: Namings<Opened>> {
+    rt: W,
+    alloc: Global,
+    units: Units<B, MemBlocks, O, N>,
+    desk: Desk<B, MemBlocks, O, N>,
+}
+
+/// The session of a host at one of them: its pass, the ticket of its command that waits at the desk, and the last reply.
+#[derive(Drop)]
+struct Host<B: Blocks, O: Opener<B>, N: Namings<Opened>> {
+    pass: Option<Pass<B, MemBlocks, O, N>>,
+    ticket: Option<Ticket<'static, B, MemBlocks, O, N>>,
+    reply: Option<Reply>,
+}
+
+impl<B: Blocks, O: Opener<B>, N: Namings<Opened>> Host<B, O, N> {
+    // Keeps the pass, and the reply, which is told in short.
+    fn keep(&mut self, pass: Pass<B, MemBlocks, O, N>, end: Result<Reply, Refused<Group>>) -> End {
+        self.pass = Some(pass);
+        match end {
+            Ok(reply) => {
+                let end = end_of(&reply);
+                self.reply = Some(reply);
+                end
+            }
+            Err(why) => {
+                self.reply = None;
+                end_by(why)
+            }
+        }
+    }
+}
+
+impl<W: Wait + Drop, B: Blocks, O: Opener<B>, N: Namings<Opened>> Shared<W, B, O, N> {
+    // Takes the pass of a host, where it has one, of a unit that there is.
+    fn pass_of(&self, host: &mut Host<B, O, N>) -> Option<Pass<B, MemBlocks, O, N>>
+        ensures { IfSome result (λ pass. pass.place < self.now.units) }
+    {
+        let pass = host.pass.take()?;
+        if pass.place() < self.units.count() {
+            Some(pass)
+        } else {
+            None
+        }
+    }
+}
+
+impl<W: Wait + Drop, B: Blocks, O: Opener<B>, N: Namings<Opened>> Array<Host<B, O, N>>
+    for Shared<W, B, O, N> {
+    fn attach(&self, place: usize, isid: u32, group: Group) -> Option<Host<B, O, N>> {
+        if place >= self.units.count() {
+            return None;
+        }
+        let name = b"iqn.2000-01.test:a".to_vec(self.alloc).ok()?;
+        let port = PortName::new(name, u64::from(isid))?;
+        let pass = self.units.attach(&self.rt, place, port, group).ok()?;
+        Some(Host {
+            pass: Some(pass),
+            ticket: None,
+            reply: None,
+        })
+    }
+
+    fn ask(
+        &self,
+        host: &mut Host<B, O, N>,
+        by_group: Group,
+        command: Command,
+        bytes: &[u8],
+    ) -> End {
+        let Some(pass) = self.pass_of(host) else {
+            return End::Nobody;
+        };
+        let (units, room) = (&self.units, ReplyMemory::new(self.alloc));
+        let (pass, end) = units.serve(&self.rt, pass, room, &by_group, &Ok(command), bytes);
+        host.keep(pass, end)
+    }
+
+    fn ask_at_desk(&self, host: &mut Host<B, O, N>, command: Command, bytes: &[u8]) -> End {
+        let Some(pass) = self.pass_of(host) else {
+            return End::Nobody;
+        };
+        let (units, room) = (&self.units, ReplyMemory::new(self.alloc));
+        let (pass, end) = self
+            .desk
+            .serve(&self.rt, room, units, pass, &Ok(command), bytes);
+        match end {
+            Ok(end) => host.keep(pass, end),
+            Err(fault) => {
+                host.pass = Some(pass);
+                end_at(fault)
+            }
+        }
+    }
+
+    fn hand_in(&self, host: &mut Host<B, O, N>, asks: Asks) -> End {
+        let (command, bytes) = command_of(asks);
+        let Some(pass) = host.pass.take() else {
+            return End::Nobody;
+        };
+        match self
+            .desk
+            .submit(&self.rt, self.alloc, pass, &Ok(command), bytes)
+        {
+            Ok(ticket) => {
+                host.ticket = Some(ticket);
+                End::Waits
+            }
+            Err((fault, pass)) => {
+                host.pass = Some(pass);
+                end_at(fault)
+            }
+        }
+    }
+
+    fn collect(&self, host: &mut Host<B, O, N>) -> End {
+        let Some(ticket) = host.ticket.take() else {
+            return End::Nobody;
+        };
+        let (pass, end) = self.desk.collect(&self.rt, ticket);
+        host.keep(pass, end)
+    }
+
+    fn serve_own(&self, host: &mut Host<B, O, N>) -> End {
+        let (units, room) = (&self.units, ReplyMemory::new(self.alloc));
+        let Some(ticket) = host.ticket.take() else {
+            return End::Nobody;
+        };
+        if ticket.place() >= units.count() {
+            return End::Nobody;
+        }
+        let (pass, end) = self.desk.serve_own(&self.rt, room, units, ticket);
+        host.keep(pass, end)
+    }
+
+    fn data<'s>(&self, host: &'s Host<B, O, N>) -> &'s [u8] {
+        match &host.reply {
+            Some(reply) => reply.bytes(),
+            None => &[],
+        }
+    }
+
+    fn reset(&self, host: &mut Host<B, O, N>) -> bool {
+        let Some(pass) = self.pass_of(host) else {
+            return false;
+        };
+        let (pass, is_done) = self.units.reset(&self.rt, pass);
+        host.pass = Some(pass);
+        is_done
+    }
+
+    fn retire(&self, host: &mut Host<B, O, N>) -> bool {
+        let Some(pass) = self.pass_of(host) else {
+            return false;
+        };
+        self.units.retire(&self.rt, pass).is_ok()
+    }
+
+    fn row(&self, place: usize) -> Option<Row> {
+        if place >= self.units.count() {
+            return None;
+        }
+        Some(self.units.read(&self.rt, place))
+    }
+
+    fn move_by(&self, place: usize, list: &[u8]) -> Option<Result<(), MoveFault>> {
+        if place >= self.units.count() {
+            return None;
+        }
+        let (_seen, end) = set_groups(&self.rt, &self.units, place, list);
+        match end {
+            Ok(_) => Some(Ok(())),
+            Err(why) => Some(Err(why)),
+        }
+    }
+
+    fn take_down(&self, group: Group) -> Result<(), (usize, MoveFault)> {
+        let mut mover = Mover::new(&self.units);
+        match take_down(&self.rt, &mut mover, group) {
+            Ok(()) => Ok(()),
+            Err(stopped) => Err((stopped.unit, stopped.why)),
+        }
+    }
+
+    fn serve_first(&self) -> Option<usize> {
+        let job = self.desk.take(&self.rt)?;
+        let unit = job.place();
+        if unit < self.units.count() {
+            let answer = job.serve(&self.rt, self.alloc, &self.units);
+            self.desk.post(&self.rt, answer);
+        }
+        Some(unit)
+    }
+
+    fn serve_next(&self) -> bool {
+        self.desk.serve_next(&self.rt, self.alloc, &self.units)
+    }
+
+    fn close(&self) {
+        self.desk.close(&self.rt);
+    }
+}
+
+/// Shares these units, and tells a tale of them.
+pub fn tell<
+    N: Namings<Opened> + Send + Sync,
+    B: Blocks + Send + Sync,
+    O: Opener<B> + Send + Sync,
+    W: Threads + Wait + Clone + Send + Sync + Drop,
+>(rt: &W, alloc: Global, new: Vec<NewUnit<B, MemBlocks, O>>, tale: Tale<'_>) -> Result<(), Fail>
+    requires named { IsNamed N.book N.table N.opening B.contents new.items }
+    requires count { length new.items ≤ 8 }
+{
+    let shared: Shared<W, B, O, N> = Shared {
+        rt: rt.clone()?,
+        alloc,
+        units: Units::new(rt, alloc, new)?,
+        desk: Desk::new(alloc, Group::One)?,
+    };
+    happens::<W, Host<B, O, N>, Shared<W, B, O, N>>(rt, alloc, &shared, tale)
+}

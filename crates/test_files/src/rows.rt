@@ -1,0 +1,53 @@
+//! The rows of the scripts over files (`scripts`).
+use std::alloc::Global;
+use std::process::Abort;
+use test_connections::bytes_of;
+
+/// A row: the word of its call, what that is on, what comes behind, and how it is to end.
+#[derive(Clone, Copy)]
+pub struct Row<'a> {
+    pub word: &'a str,
+    pub on: &'a str,
+    pub rest: &'a str,
+    pub end: &'a str,
+}
+
+/// The row that a line says.
+pub fn row_of(line: &str) -> Row<'_> {
+    let (call, end) = line.split_once("; ").unwrap_or((line, "done"));
+    let (word, rest) = call.split_once(' ').unwrap_or((call, ""));
+    let (on, rest) = rest.split_once(' ').unwrap_or((rest, ""));
+    Row {
+        word,
+        on,
+        rest,
+        end,
+    }
+}
+
+impl Row<'_> {
+    /// Whether it is a call on the disk that is kept.
+    pub fn is_on_a_disk(&self) -> bool {
+        matches!(self.word, "read" | "write" | "flush" | "anew" | "blocks")
+    }
+
+    /// The block that it is on.
+    pub fn block(&self, rt: &impl Abort) -> u32 {
+        self.on.parse().expect(rt, self.on)
+    }
+
+    /// The number behind what it is on.
+    pub fn number(&self, rt: &impl Abort) -> u64 {
+        self.rest.parse().expect(rt, self.rest)
+    }
+
+    /// The bytes behind what it is on.
+    pub fn bytes(&self, rt: &impl Abort, alloc: Global) -> Vec<u8> {
+        bytes_of(alloc, &[], self.rest).expect(rt, self.rest)
+    }
+
+    /// Whether it is to end as done, or as failed.
+    pub fn ends(&self, is_done: bool) -> bool {
+        self.end == if is_done { "done" } else { "failed" }
+    }
+}

@@ -1,8 +1,0 @@
-//! The registration file over its public calls.
-
-mod bytes;
-pub mod files;
-mod order;
-mod records;
-mod refusals;
-mod saves;

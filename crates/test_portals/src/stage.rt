@@ -1,0 +1,483 @@
+//! The scripts of the tests, a line for what an initiator does or is answered:
+//!
+//! - `A at 1`: it connects to the portal of controller 1, and is called `A` from then on;
+//! - `A comes 2 HOST_A / 15:02 WELCOME_2`: it connects to the portal of controller 2, logs in by this text, and is answered by that;
+//! - `A refused 1 7:56 HOST_A / 36:0302`: its login by the portal of controller 1 is refused so, and the target closes the connection;
+//! - `A power 9:01`: unit 1 tells it that power came on, and `all power`: unit 0 tells all connections that entered;
+//! - `A alone`: A comes to controller 1, and unit 0 tells it that power came on; `A and B`: so does B then, at controller 2;
+//! - `A > PDU`: it sends this PDU, and `A < PDU`: this PDU comes. `test_connections` says how a PDU is spelled (`pdu_of`). Behind a
+//!   login requests are numbered as they go, and of answers the numbers of the session are not compared;
+//! - `A < PDU / PDU`: one of these comes;
+//! - `A does PDU`: it sends this PDU, and GOOD comes;
+//! - `A reads 20:00000200 32:280000000005000001 / 5:000200 pattern 512`: it sends a SCSI Command that reads and differs so, and
+//!   these data come in one Data-In, and then GOOD;
+//! - `A >> PDU`: it sends this PDU, and `A << PDU`: this PDU comes, each with the numbers that are spelled;
+//! - `A pieces 7`: from now on what it sends goes out in pieces of so many bytes, and not in those of the script;
+//! - `A cut 47 PDU`: of this PDU, with the numbers that are spelled, it sends so many bytes, and then no more;
+//! - `A told`: a Text Response comes that tells of the target and of both portals;
+//! - `A over`: the target has closed the connection;
+//! - `AB race PDU / PDU`: of two answers one comes to each; `WON` is the name of the one to whom the first came, in small;
+//! - `64 enter 1 PDU`: so many connections to the portal of controller 1 log in by this PDU, each with another ISID, and
+//!   `all leave PDU`: each of them sends this, is answered by a Logout Response, and the target closes the connection;
+//! - `all > PDU`, `all < PDU`: each of those connections sends it, and each is answered by it;
+//! - `gate hold 1`: from now on commands of unit 1 wait before it; `gate held 2`: once two of them wait; `gate open`; `disk`
+//!   in place of `gate`: the writes of its device wait; `flush` in place of it: flushes wait that are left to the gate;
+//! - `gate flushes done`: from now on flushes are left to the gate, and done; `fail`: they fail; `fail once`: the next one does;
+//!   `in place`: none is left to it;
+//! - `gate flushed 1`: since the last such line a flush was asked of the gate, the last one of unit 1; `gate unflushed`: none was;
+//! - `0 shows 3`: the row of unit 0 tells of three entries, whoever has its lock;
+//! - `console status / down 1 = unit 0 .. / down`: these lines of the console are answered by those; behind them the desks are closed;
+//! - `desks close`: the desks of both controllers are closed.
+use crate::at::At;
+use crate::doors::Flushes;
+use crate::scene::{Place, Scene};
+use std::alloc::{AllocError, Global};
+use std::io::Eprint;
+use std::process::Abort;
+use test_connections::{Host, host_texts, is_text, lines_of, pdu_of, put_number};
+
+/// The hosts of a script, and the array that they reach.
+#[derive(Drop)]
+pub struct Stage<'a, R, S> {
+    at: At<'a, R>,
+    alloc: Global,
+    scene: &'a S,
+    // What a host sends goes out in such pieces.
+    piece: usize,
+    // What the lines name.
+    texts: Vec<(&'static str, &'static str)>,
+    names: Vec<&'a str>,
+    // In the order of their names.
+    hosts: Vec<Host>,
+    crowd: Vec<Host>,
+}
+
+/// What a unit tells of the power.
+const POWER_ON: &str = "CHECK_CONDITION 0012 70000600000000 0A00000000 2900 00000000";
+
+// What initiators are told of the target: both portals, each with the tag of its group (RFC 7143, appendix C).
+fn told(alloc: Global, ports: [u16; 2]) -> Result<String, AllocError> {
+    let [first, second] = ports;
+    format!(in alloc;
+        "TargetName=iqn.2000-01.test:array\0TargetAddress=127.0.0.1:{first},1\0TargetAddress=127.0.0.1:{second},2\0"
+    )
+}
+
+impl<'a, R: Abort + Eprint, S: Scene> Stage<'a, R, S> {
+    /// A stage before the portals of an array. It is for the script of this name, and what its hosts send goes out in pieces of
+    /// so many bytes.
+    pub fn new(
+        rt: &'a R,
+        alloc: Global,
+        scene: &'a S,
+        script: &'a str,
+        piece: usize,
+    ) -> Stage<'a, R, S> {
+        Stage {
+            at: At {
+                rt,
+                script,
+                line: "",
+            },
+            alloc,
+            scene,
+            piece,
+            texts: host_texts().to_vec(alloc).expect(rt, "memory"),
+            names: Vec::new(alloc),
+            hosts: Vec::new(alloc),
+            crowd: Vec::new(alloc),
+        }
+    }
+
+    /// Does what the lines of a script say.
+    pub fn perform(&mut self, text: &'a str) {
+        let lines = lines_of(self.alloc, text).expect(self.at.rt, "memory");
+        self.at.check(!lines.is_empty(), &"a script has lines");
+        for line in &lines {
+            self.obey_shorthand(line);
+        }
+    }
+
+    // A line that may stand for several.
+    fn obey_shorthand(&mut self, line: &'a str) {
+        self.at.line = line;
+        match line {
+            "A alone" => self.begin("A", "1 HOST_A / WELCOME"),
+            "A and B" => {
+                self.begin("A", "1 HOST_A / WELCOME");
+                self.begin("B", "2 HOST_B / 15:02 WELCOME_2");
+            }
+            _ => self.obey(line),
+        }
+    }
+
+    // A host comes, and is told of the power.
+    fn begin(&mut self, name: &'a str, words: &str) {
+        self.come(name, words);
+        self.hear_of_power(name, "");
+    }
+
+    /// The hosts, as they are behind it.
+    pub fn into_hosts(self) -> Vec<Host> {
+        self.hosts
+    }
+
+    // The host of this name.
+    fn host(&mut self, name: &str) -> &mut Host {
+        let place = self
+            .names
+            .iter()
+            .position(|n| *n == name)
+            .expect(self.at.rt, "a host");
+        self.hosts.get_mut(place).expect(self.at.rt, "a host")
+    }
+
+    fn obey(&mut self, line: &'a str) {
+        let (who, words) = line.split_once(' ').unwrap_or((line, ""));
+        let (verb, rest) = words.split_once(' ').unwrap_or((words, ""));
+        match who {
+            "console" => self.compare_answers(words),
+            "gate" | "disk" | "flush" | "desks" => self.obey_behind(who, verb, rest),
+            "all" => self.obey_all_hosts(verb, rest),
+            _ => self.obey_host(who, verb, rest),
+        }
+    }
+
+    // A line for what is behind the portals.
+    fn obey_behind(&self, who: &str, verb: &str, rest: &str) {
+        match verb {
+            "hold" => self
+                .scene
+                .hold(place_of(who), Some(self.number(rest) as usize)),
+            "held" => self.scene.await_held(place_of(who), self.number(rest)),
+            "open" => self.scene.hold(place_of(who), None),
+            "flushes" => self.scene.come_to(self.flushes(rest)),
+            "flushed" => self.compare_flush(Some(self.number(rest) as usize)),
+            "unflushed" => self.compare_flush(None),
+            "close" => self.scene.close(),
+            _ => self.at.stop("a verb"),
+        }
+    }
+
+    // A line for all connections that entered.
+    fn obey_all_hosts(&mut self, verb: &str, rest: &str) {
+        match verb {
+            ">" => self.send_all(rest),
+            "<" => self.compare_all(rest),
+            "leave" => self.leave(rest),
+            "power" => {
+                self.send_all("TEST_UNIT_READY");
+                self.compare_all(POWER_ON);
+            }
+            _ => self.at.stop("a verb"),
+        }
+    }
+
+    // A line for one host.
+    fn obey_host(&mut self, who: &'a str, verb: &str, rest: &str) {
+        match verb {
+            "at" => self.connect(who, rest),
+            "comes" => self.come(who, rest),
+            "refused" => {
+                self.log_in(who, rest, ["LOGIN", "LOGIN_REFUSED"]);
+                self.end(who);
+            }
+            ">" => self.send(who, rest),
+            "<" => self.compare(who, rest),
+            ">>" => self.send_as_is(who, rest),
+            "<<" => self.compare_exactly(who, rest),
+            "pieces" => self.cut_up(who, rest),
+            "cut" => self.cut(who, rest),
+            "told" => self.compare_text(who),
+            "over" => self.end(who),
+            "power" => self.hear_of_power(who, rest),
+            _ => self.obey_other(who, verb, rest),
+        }
+    }
+
+    // A line for what a host does or reads at once, for two hosts, for those that enter, or for the row of a unit.
+    fn obey_other(&mut self, who: &str, verb: &str, rest: &str) {
+        match verb {
+            "does" => self.get_done(who, rest),
+            "reads" => self.read(who, rest),
+            "race" => self.race(rest),
+            "enter" => self.enter(who, rest),
+            "shows" => self.compare_row(who, rest),
+            _ => self.at.stop("a verb"),
+        }
+    }
+
+    // A decimal number.
+    fn number(&self, word: &str) -> u32 {
+        word.parse().expect(self.at.rt, self.at.line)
+    }
+
+    // A unit's place.
+    fn unit(&self, word: &str) -> u8 {
+        word.parse().expect(self.at.rt, self.at.line)
+    }
+
+    // What the lines of the console are answered.
+    fn compare_answers(&self, words: &str) {
+        let (lines, wanted) = words.split_once('=').unwrap_or((words, ""));
+        let lines = lines_between(self.alloc, lines).expect(self.at.rt, "memory");
+        let wanted = lines_between(self.alloc, wanted).expect(self.at.rt, "memory");
+        let answers = self.scene.answers(self.alloc, lines.as_str());
+        let answers = self.at.must(answers);
+        self.at.check(answers == wanted, &answers);
+    }
+
+    // Of which unit a flush was asked for last.
+    fn compare_flush(&self, unit: Option<usize>) {
+        let asked_for = self.scene.asked_for();
+        self.at.check(asked_for == unit, &asked_for);
+    }
+
+    // What becomes of flushes.
+    fn flushes(&self, word: &str) -> Flushes {
+        match word {
+            "done" => Flushes::Done,
+            "fail" => Flushes::Failed,
+            "fail once" => Flushes::FailedOnce,
+            "in place" => Flushes::InPlace,
+            _ => self.at.stop("what becomes of flushes"),
+        }
+    }
+
+    // What this line spells.
+    fn spelled(&self, line: &str) -> Vec<u8> {
+        pdu_of(self.alloc, self.texts.as_slice(), line).expect(self.at.rt, self.at.line)
+    }
+
+    // A connection to the portal of a controller.
+    fn connected(&self, controller: &str) -> Host {
+        let controller = self.number(controller) as usize;
+        self.at.must(self.scene.connect(controller))
+    }
+
+    fn connect(&mut self, name: &'a str, controller: &str) {
+        let mut host = self.connected(controller);
+        self.at.must(host.send_in_pieces(self.piece));
+        self.names.push(name).expect(self.at.rt, "memory");
+        self.hosts.push(host).expect(self.at.rt, "memory");
+    }
+
+    fn come(&mut self, name: &'a str, words: &str) {
+        self.log_in(name, words, ["LOGIN 7:56", "LOGGED_IN 7:36"]);
+    }
+
+    // A host logs in by a controller, and is answered: how both PDUs begin.
+    fn log_in(&mut self, name: &'a str, words: &str, begins: [&str; 2]) {
+        let [request, response] = begins;
+        let (controller, texts) = words.split_once(' ').unwrap_or((words, ""));
+        let (login, answer) = texts.split_once(" / ").unwrap_or((texts, ""));
+        self.connect(name, controller);
+        let login = format!(in self.alloc; "{request} {login}").expect(self.at.rt, "memory");
+        self.send(name, login.as_str());
+        let answer = format!(in self.alloc; "{response} {answer}").expect(self.at.rt, "memory");
+        self.compare(name, answer.as_str());
+    }
+
+    // A host sends this, and GOOD comes.
+    fn get_done(&mut self, name: &str, line: &str) {
+        self.send(name, line);
+        self.compare(name, "GOOD");
+    }
+
+    // A host reads by a command: how the command goes on, and how its one Data-In does.
+    fn read(&mut self, name: &str, words: &str) {
+        let (command, data) = words.split_once(" / ").unwrap_or((words, ""));
+        let command = format!(in self.alloc; "COMMAND 1:C1 {command}").expect(self.at.rt, "memory");
+        self.send(name, command.as_str());
+        let data = format!(in self.alloc; "DATA_IN {data}").expect(self.at.rt, "memory");
+        self.compare(name, data.as_str());
+        self.compare(name, "GOOD 36:00000001");
+    }
+
+    // The unit of a LUN tells a host that power came on.
+    fn hear_of_power(&mut self, name: &str, lun: &str) {
+        let asked = format!(in self.alloc; "TEST_UNIT_READY {lun}").expect(self.at.rt, "memory");
+        self.send(name, asked.as_str());
+        self.compare(name, POWER_ON);
+    }
+
+    fn send(&mut self, name: &str, line: &str) {
+        let mut pdu = self.spelled(line);
+        let sent = self.host(name).send(pdu.as_mut_slice());
+        self.at.must(sent);
+    }
+
+    fn send_as_is(&mut self, name: &str, line: &str) {
+        let pdu = self.spelled(line);
+        let sent = self.host(name).send_as_is(pdu.as_slice());
+        self.at.must(sent);
+    }
+
+    fn cut_up(&mut self, name: &str, piece: &str) {
+        let piece = self.number(piece) as usize;
+        let done = self.host(name).send_in_pieces(piece);
+        self.at.must(done);
+    }
+
+    fn cut(&mut self, name: &str, line: &str) {
+        let (length, line) = line.split_once(' ').unwrap_or((line, ""));
+        let length = self.number(length) as usize;
+        let pdu = self.spelled(line);
+        let part = pdu
+            .as_slice()
+            .get(..length)
+            .expect(self.at.rt, "a longer PDU");
+        let sent = self.host(name).send_as_is(part);
+        self.at.must(sent);
+        let ended = self.host(name).end_output();
+        self.at.must(ended);
+    }
+
+    fn receive(&mut self, name: &str) -> Vec<u8> {
+        let alloc = self.alloc;
+        let came = self.host(name).receive(alloc);
+        self.at.must(came)
+    }
+
+    // Whether what came to a host is what this line spells.
+    fn is_answer(&mut self, name: &str, came: &[u8], line: &str) -> bool {
+        let mut wanted = self.spelled(line);
+        self.host(name).is_answer(came, wanted.as_mut_slice())
+    }
+
+    // Whether what came to a host is what one of these lines spells.
+    fn is_one_of(&mut self, name: &str, came: &[u8], lines: &str) -> bool {
+        let mut is_one = false;
+        for line in lines.split(" / ") {
+            is_one = is_one || self.is_answer(name, came, line);
+        }
+        is_one
+    }
+
+    fn compare(&mut self, name: &str, lines: &str) {
+        let came = self.receive(name);
+        let is_one = self.is_one_of(name, came.as_slice(), lines);
+        self.at.check(is_one, &came);
+    }
+
+    fn compare_exactly(&mut self, name: &str, line: &str) {
+        let wanted = self.spelled(line);
+        let came = self.receive(name);
+        self.at.check(came.as_slice() == wanted.as_slice(), &came);
+    }
+
+    fn compare_text(&mut self, name: &str) {
+        let wanted = told(self.alloc, self.scene.ports()).expect(self.at.rt, "memory");
+        let came = self.receive(name);
+        self.at
+            .check(is_text(came.as_slice(), wanted.as_bytes()), &came);
+    }
+
+    fn end(&mut self, name: &str) {
+        let is_over = self.host(name).is_over();
+        self.at.check(is_over, &"its end");
+    }
+
+    fn race(&mut self, lines: &str) {
+        let (first, second) = lines.split_once(" / ").unwrap_or((lines, ""));
+        let came = self.receive("A");
+        if self.is_answer("A", came.as_slice(), first) {
+            self.win("a");
+            self.compare("B", second);
+        } else {
+            self.win("b");
+            let is_answer = self.is_answer("A", came.as_slice(), second);
+            self.at.check(is_answer, &came);
+            self.compare("B", first);
+        }
+    }
+
+    // Who has won.
+    fn win(&mut self, name: &'static str) {
+        self.texts.push(("WON", name)).expect(self.at.rt, "memory");
+    }
+
+    fn enter(&mut self, count: &str, line: &str) {
+        let (controller, line) = line.split_once(' ').unwrap_or((line, ""));
+        let mut pdu = self.spelled(line);
+        for number in 0..self.number(count) {
+            put_number(pdu.as_mut_slice(), 10, 0x0137_0100 | number);
+            let mut host = self.connected(controller);
+            enter(&self.at, self.alloc, &mut host, pdu.as_mut_slice());
+            self.crowd.push(host).expect(self.at.rt, "memory");
+        }
+    }
+
+    fn send_all(&mut self, line: &str) {
+        let mut pdu = self.spelled(line);
+        for host in &mut self.crowd {
+            self.at.must(host.send(pdu.as_mut_slice()));
+        }
+    }
+
+    fn compare_all(&mut self, line: &str) {
+        let mut wanted = self.spelled(line);
+        for host in &mut self.crowd {
+            compare_one(&self.at, self.alloc, host, wanted.as_mut_slice());
+        }
+    }
+
+    fn compare_row(&self, unit: &str, entries: &str) {
+        let shown = self.scene.entries(self.unit(unit));
+        let wanted = u64::from(self.number(entries));
+        self.at.check(shown == Some(wanted), &shown);
+    }
+
+    fn leave(&mut self, line: &str) {
+        let mut pdu = self.spelled(line);
+        for host in &mut self.crowd {
+            leave(&self.at, self.alloc, host, pdu.as_mut_slice());
+        }
+    }
+}
+
+// The lines between slashes, each with its end.
+fn lines_between(alloc: Global, words: &str) -> Result<String, AllocError> {
+    let mut lines = String::new(alloc);
+    for line in words.split('/') {
+        lines.push_str(line.trim())?;
+        lines.push('\n')?;
+    }
+    Ok(lines)
+}
+
+// Where the calls hang that this name stands for.
+fn place_of(name: &str) -> Place {
+    match name {
+        "disk" => Place::Disks,
+        "flush" => Place::Flushes,
+        _ => Place::Commands,
+    }
+}
+
+// A host logs in by this PDU.
+fn enter<R: Abort + Eprint>(at: &At<'_, R>, alloc: Global, host: &mut Host, pdu: &mut [u8]) {
+    at.must(host.send(pdu));
+    let came = at.must(host.receive(alloc));
+    at.check(came.first() == Some(&0x23), &came);
+    at.check(came.get(36..38) == Some([0u8, 0].as_slice()), &came);
+}
+
+// A host is answered by this.
+fn compare_one<R: Abort + Eprint>(
+    at: &At<'_, R>,
+    alloc: Global,
+    host: &mut Host,
+    wanted: &mut [u8],
+) {
+    let came = at.must(host.receive(alloc));
+    at.check(host.is_answer(came.as_slice(), wanted), &came);
+}
+
+// A host that sends this logs out.
+fn leave<R: Abort + Eprint>(at: &At<'_, R>, alloc: Global, host: &mut Host, pdu: &mut [u8]) {
+    at.must(host.send(pdu));
+    let came = at.must(host.receive(alloc));
+    at.check(came.first() == Some(&0x26), &came);
+    at.check(host.is_over(), &"its end");
+}

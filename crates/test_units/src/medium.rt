@@ -1,0 +1,65 @@
+//! The commands on the medium of a unit of 2048 blocks (SBC-3, section 5).
+use crate::run::{ONE_SESSION, run};
+
+const ROWS: &str = r#"
+medium
+blocks 2048
+READ CAPACITY (10); send 0 25;; GOOD 000007FF 00000200
+READ CAPACITY (16) of 10 bytes; send 0 9E 10 0000000000000000 0000000A;; GOOD 00000000000007FF 0000
+READ (10) of no block at the end; send 0 28 00 00000800 00 0000;; CHECK 05 21 00
+READ (10) past the end; send 0 28 00 000007FF 00 0002;; CHECK 05 21 00
+READ (10) of no block at the last; send 0 28 00 000007FF 00 0000;; GOOD
+READ (10) of the last; send 0 28 00 000007FF 00 0001;; GOOD 512*00
+READ (10) of 2048 blocks; send 0 28 00 00000000 00 0800;; GOOD 1048576*00
+READ (10) of 2049 blocks; send 0 28 00 00000000 00 0801;; CHECK 05 24 00
+READ (6) of 256 blocks; send 0 08 00 00 00 00 00;; GOOD 131072*00
+READ (16) far behind the end; send 0 88 00 0000000100000000 00000001;; CHECK 05 21 00
+SYNCHRONIZE CACHE (10) to the end; send 0 35 00 000007FF 00 0000;; GOOD
+SYNCHRONIZE CACHE (10) past the end; send 0 35 00 000007FF 00 0002;; CHECK 05 21 00
+SYNCHRONIZE CACHE (16) past the end; send 0 91 00 00000000000007FF 00000002;; CHECK 05 21 00
+WRITE (10) past the end; send 0 2A 00 000007FF 00 0002; 1024*5A; CHECK 05 21 00
+COMPARE AND WRITE past the end; send 0 89 00 00000000000007FF 000000 02; 1024*00 1024*5A; CHECK 05 21 00
+an unknown operation code; send 0 04;; CHECK 05 20 00
+# Data that came short, and data of which more came.
+511 bytes for a block; send 0 2A 00 00000005 00 0001; 511*5A; CHECK 05 24 00
+one instance of two; send 0 89 00 0000000000000005 000000 01; 512*00; CHECK 05 24 00
+too short and out of range; send 0 2A 00 00000800 00 0001;; CHECK 05 24 00
+out of range alone; send 0 2A 00 00000800 00 0001; 512*5A; CHECK 05 21 00
+more than a block; send 0 2A 00 00000009 00 0001; 512*99 512*5A; GOOD
+# Writes and reads.
+WRITE (10); send 0 2A 00 00000005 00 0001; 512*5A; GOOD
+READ (10) with its neighbours; send 0 28 00 00000004 00 0003;; GOOD 512*00 512*5A 512*00
+WRITE (6); send 0 0A 00 00 06 01; 512*66; GOOD
+WRITE (16); send 0 8A 00 0000000000000007 00000001; 512*77; GOOD
+WRITE (10) with FUA; send 0 2A 08 000007FF 00 0001; 512*FF; GOOD
+READ (6); send 0 08 00 00 07 01;; GOOD 512*77
+READ (16); send 0 88 00 0000000000000005 00000002;; GOOD 512*5A 512*66
+READ (10) with FUA; send 0 28 08 000007FF 00 0001;; GOOD 512*FF
+# COMPARE AND WRITE.
+a difference at byte 5; send 0 89 00 0000000000000005 000000 01; 5*5A 507*5B 512*11; CHECK F0 00 0E 00 00 00 05 0A 00 00 00 00 1D 00 00
+  00 00 00
+the block; send 0 28 00 00000005 00 0001;; GOOD 512*5A
+a difference in the second of two; send 0 89 00 0000000000000005 000000 02; 512*5A 2*66 510*67 1024*11;
+  CHECK F0 00 0E 00 00 02 02 0A 00 00 00 00 1D 00 00 00 00 00
+both blocks; send 0 28 00 00000005 00 0002;; GOOD 512*5A 512*66
+equal; send 0 89 00 0000000000000005 000000 02; 512*5A 512*66 512*11 512*22; GOOD
+what was written; send 0 28 00 00000005 00 0002;; GOOD 512*11 512*22
+of no block; send 0 89 00 0000000000000005 000000 00;; GOOD
+of 32 blocks that differ in the first byte; send 0 89 00 0000000000000010 000000 20; 11 16383*00 16384*11;
+  CHECK F0 00 0E 00 00 00 00 0A 00 00 00 00 1D 00 00 00 00 00
+in the last byte; send 0 89 00 0000000000000010 000000 20; 16383*00 11 16384*11; CHECK F0 00 0E 00 00 3F FF 0A 00 00 00 00 1D 00 00 00 00 00
+in what is written alone; send 0 89 00 0000000000000010 000000 20; 16384*00 16384*11; GOOD
+what was written; send 0 28 00 0000000F 00 0022;; GOOD 512*00 16384*11 512*00
+zeros again; send 0 89 00 0000000000000010 000000 20; 16384*11 16384*00; GOOD
+of 33 blocks; send 0 89 00 0000000000000005 000000 21; 33792*00; CHECK 05 24 00
+written 5 11
+written 6 22
+written 7 77
+written 9 99
+written 2047 FF
+"#;
+
+#[test]
+fn medium_commands(rt: HostRuntime) {
+    run(&rt, rt.alloc(), ONE_SESSION, ROWS);
+}

@@ -1,0 +1,116 @@
+//! Calls that may want memory, each with enough of it. More of what a unit says of itself stands in `identities.rt` and
+//! `access.rt`.
+use crate::ends::must;
+use crate::rows::cdb_of;
+use access_states::AccessMap;
+use identity::{
+    absent, inquiry, mode_sense, read_capacity_10, read_capacity_16, report_luns, request_sense,
+};
+use scsi_types::{
+    Group, InquiryPage, LunSelect, ModeHeader, ModePage, NoMemory, PageControl, Place, Reply,
+    Status, UnitAttention, decode,
+};
+use std::alloc::Global;
+use std::process::Abort;
+use test_connections::{bytes_of, lines_of};
+
+/// The last of eight units.
+const PLACE: Place = Place {
+    unit: 7,
+    units: 8,
+    array: 0xFEDC_BA98,
+};
+
+// The data is these bytes.
+fn is(rt: &impl Abort, alloc: Global, data: Result<Vec<u8>, NoMemory>, bytes: &str) {
+    let data = data.expect(rt, bytes);
+    let want = bytes_of(alloc, &[], bytes).expect(rt, bytes);
+    must(rt, data == want, bytes, &data);
+}
+
+#[test]
+fn what_a_unit_says_of_itself(rt: HostRuntime) {
+    let alloc = rt.alloc();
+    let page = InquiryPage::UnitSerialNumber;
+    let serial = inquiry(alloc, PLACE, Group::Two, page, 255);
+    is(&rt, alloc, serial, r#"00 80 00 0A "fedcba9807""#);
+    let page = InquiryPage::DeviceIdentification;
+    let names = inquiry(alloc, PLACE, Group::One, page, 255);
+    is(
+        &rt,
+        alloc,
+        names,
+        "00 83 00 1C 01 03 00 08 30 00 FEDCBA98 00 07 51 94 00 04 00 00 00 01 51 95 00 04 00 00 00 01",
+    );
+    let (control, pages) = (PageControl::Default, ModePage::Caching);
+    let pages = mode_sense(alloc, ModeHeader::Ten, control, pages, 10);
+    is(&rt, alloc, pages, "001A 00 10 0000 0000 08 12");
+    let luns = report_luns(alloc, PLACE, LunSelect::Units, 26);
+    is(&rt, alloc, luns, "00000040 13*00 01 7*00 02");
+    let capacity = read_capacity_10(alloc, 0xFFFF_FFFF);
+    is(&rt, alloc, capacity, "FFFFFFFE 00000200");
+    let capacity = read_capacity_16(alloc, 0xFFFF_FFFF, 255);
+    is(&rt, alloc, capacity, "00000000 FFFFFFFE 00000200 20*00");
+    let told = Some(UnitAttention::RegistrationsPreempted);
+    let sense = request_sense(alloc, told, 255);
+    is(&rt, alloc, sense, "70 00 06 4*00 0A 4*00 2A 05 4*00");
+    let states = AccessMap::opening(Group::Two).report(alloc, Group::Two, 28);
+    is(
+        &rt,
+        alloc,
+        states,
+        "00000018 01 0F 0001 00 00 00 01 00000001 80 0F 0002 00 00 00 01 00000002",
+    );
+}
+
+// CDBs for a unit that is not there, and the data, or the sense.
+fn rows() -> &'static str {
+    r#"
+12 00 00 0001 00; 7F
+12 00 00 00FF 00; 7F 00 06 12 1F 30 10 02 "TWINCTL ALUA DISK       0001"
+03 00 0000 FC 00; 70 00 05 4*00 0A 4*00 25 00 4*00
+03 00 0000 00 00;
+# A page of vital product data, an unknown one, and descriptor format.
+12 01 00 00FF 00; CHECK 70 00 05 4*00 0A 4*00 24 00 4*00
+12 01 81 00FF 00; CHECK 70 00 05 4*00 0A 4*00 24 00 4*00
+03 01 0000 FC 00; CHECK 70 00 05 4*00 0A 4*00 24 00 4*00
+# REPORT LUNS, TEST UNIT READY, a READ with a bad field, and an unknown operation code.
+A0 00 00 000000 000000FF 00 00; CHECK 70 00 05 4*00 0A 4*00 25 00 4*00
+00 00 000000 00; CHECK 70 00 05 4*00 0A 4*00 25 00 4*00
+28 00 00000000 00 0801 00; CHECK 70 00 05 4*00 0A 4*00 25 00 4*00
+04 00 000000 00; CHECK 70 00 05 4*00 0A 4*00 25 00 4*00
+"#
+}
+
+// Whether a reply has these bytes of data, or of sense behind CHECK.
+fn has(rt: &impl Abort, alloc: Global, reply: &Reply, want: &str) -> bool {
+    let (refused, digits) = match want.strip_prefix("CHECK ") {
+        None => (false, want),
+        Some(digits) => (true, digits),
+    };
+    let bytes = bytes_of(alloc, &[], digits).expect(rt, want);
+    match reply.sense() {
+        None => !refused && reply.status() == Status::Good && reply.bytes() == bytes.as_slice(),
+        Some(sense) => refused
+            && sense.to_bytes().as_slice() == bytes.as_slice()
+            && reply.bytes().is_empty(),
+    }
+}
+
+// A unit that is not there answers as a row says.
+fn answers(rt: &impl Abort, alloc: Global, row: &str) {
+    let (digits, want) = row.split_once(';').expect(rt, row);
+    let cdb = cdb_of(rt, alloc, digits, 0xEE);
+    let reply = absent(alloc, &decode(&cdb)).expect(rt, row);
+    let is_right = has(rt, alloc, &reply, want.trim());
+    must(rt, is_right, row, &reply);
+}
+
+#[test]
+fn of_a_unit_that_is_not_there(rt: HostRuntime) {
+    let rows = lines_of(rt.alloc(), rows()).expect(&rt, "memory");
+    must(&rt, !rows.is_empty(), "absent", &"a table has rows");
+    for row in &rows {
+        answers(&rt, rt.alloc(), row);
+    }
+}

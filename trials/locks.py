@@ -1,0 +1,84 @@
+"""The locks of the program, for trials/chaos.py: which lock it is that a function takes, and which may be waited for while another is
+held. That is the table of docs/ARCHITECTURE.md, "The order of locks"; the two have to say the same.
+"""
+
+# By the function that takes it, the innermost first that has a row; a row may name the caller too. Where one function takes two locks,
+# the first that it takes stands before the other.
+TAKEN_BY = (
+    ("portal::target::SessionTarget::join", "logins"),
+    ("unit_lock::unit::LockedUnit", "unit"),
+    ("array_units::any_unit::Seated::read", "seat"),
+    ("forwarding::desk::Desk", "queue"),
+    ("forwarding::job", "answer"),
+    ("portal::sessions::MutexSessions", "sessions"),
+    ("array::administered", "sessions"),
+    ("deadline::blocks", "device's thread"),
+    ("deadline::prepared", "preparer's thread"),
+    ("deadline::hatch", "errand"),
+    ("deadline::ahead", "read ahead"),
+    ("disk_files::flushes::Flushes::flush", "flush handle", "flushed"),
+    ("disk_files::flushes::Flushes::covers", "flushed"),
+    ("event_log::meters::reach event_log::meters::Hand", "counts"),
+    ("event_log::meters::Meter::seen", "counts"),
+    ("event_log::meters::Meters::sum", "book", "counts"),
+    ("event_log::meters::Meters::enter", "book"),
+    ("event_log::meters::Meters::leave", "book"),
+    ("event_log::meters", "happenings"),
+    ("event_log::log", "lines"),
+    ("event_log::writer", "lines"),
+    ("portal::memory", "kept memory"),
+)
+
+# What may be waited for while this is held. Who only tries, and goes on without, can keep nobody waiting in a ring, and is not looked at.
+WHILE_HELD = {
+    "logins": {"unit", "sessions"},
+    "unit": {"device's thread", "errand"},
+    "device's thread": {"errand"},
+    "preparer's thread": {"errand"},
+    "flush handle": {"flushed"},
+    "book": {"counts"},
+}
+
+
+def row_of(frames):
+    for at, frame in enumerate(frames):
+        both = f"{frame} {frames[at + 1]}" if at + 1 < len(frames) else frame
+        for row in TAKEN_BY:
+            if frame.startswith(row[0]) or both.startswith(row[0]):
+                return row
+    return None
+
+
+def classes_of(chaos, names):
+    """The lock of each place where one was taken, by the place's key."""
+    rows = {site.key: row_of(names.of_site(site)) for site in chaos.sites()}
+    first = {}
+    for site in chaos.sites():
+        row = rows[site.key]
+        first[row] = min(first.get(row, site.frames[0]), site.frames[0])
+    found = {}
+    for site in chaos.sites():
+        row = rows[site.key]
+        if row is None:
+            found[site.key] = "? " + " < ".join(names.of_site(site)[:2])
+        else:
+            found[site.key] = row[1] if len(row) == 2 or site.frames[0] == first[row] else row[2]
+    return found
+
+
+def found_wrong(chaos, names):
+    """What goes against the table."""
+    classes, told = classes_of(chaos, names), set()
+    for name in classes.values():
+        if name.startswith("?"):
+            told.add(f"a lock that the table does not have, taken by {name[2:]}")
+    for held, taken, is_awaited, _ in chaos.edges():
+        one, other = classes[held.key], classes[taken.key]
+        # the lock of a unit is tried some times before it is waited for
+        if (is_awaited or other == "unit") and other not in WHILE_HELD.get(one, ()):
+            told.add(f"{other} was taken while {one} was held: {' < '.join(names.of_site(taken))}; {' < '.join(names.of_site(held))}")
+    if chaos.seen.ended_with_locks:
+        told.add(f"{chaos.seen.ended_with_locks} threads ended with a lock")
+    if chaos.seen.unknown_releases:
+        told.add(f"{chaos.seen.unknown_releases} locks were let go by a thread that did not hold them")
+    return sorted(told)

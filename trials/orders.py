@@ -1,0 +1,200 @@
+"""Whether what a unit's hosts saw is what one after the other would have given: looks for an order of all that was asked of the unit,
+in which each answer is the model's (trials/chaos_model.py), and in which what had ended before another thing was sent comes before it
+(Herlihy and Wing, linearizability). The search is that of Wing and Gong, with the sets of Lowe: what was placed, and the state that
+came of it, are looked at once.
+
+    order_of(ops, unit)     an `Order`: is_found, or what was placed at most, and what could have come next
+
+Three things keep it short. Who asks one after the other is answered in this order (docs/PROFILE.md), so only the next of each lane is
+looked at. And what may come next, and answered so would leave the unit as it is at any time, comes at once: an order with it later is
+one with it here too. And each number is written once, and each key registered once: what somebody has still to find in a block is not
+overwritten, and neither its write nor the registration of a key that is found is left behind.
+What was not answered may have been done, or not.
+"""
+
+import collections
+
+from chaos_model import ATTACH, COMPARE, DOWN, FLUSH, IN, MISCOMPARE, OUT, READ, READY, RESET, RESTART, SET, STATES, UP, WRITE
+from initiator import BUSY, CHECK_CONDITION, GOOD, RESERVATION_CONFLICT
+from reservations import REGISTER, REGISTER_AND_IGNORE
+
+# So many states at most; a history that needs more is told as one that was not decided.
+MOST = 30_000
+
+Order = collections.namedtuple("Order", "is_found is_decided placed left states unit")
+
+
+def leaves_all(op):
+    """Whether the answer alone says that it changed nothing. A read may: it settles what a block is that might have been two things."""
+    if op.reply is None:
+        return False
+    status, sense, _ = op.reply
+    if status == CHECK_CONDITION:
+        return sense[0] in (2, 5, 0x0E)
+    return status in (BUSY, RESERVATION_CONFLICT) or op.kind in (READ, READY, IN, STATES, FLUSH)
+
+
+def may_be_seen(op, found):
+    """Whether others may see that this was done, though it was not answered: a write where one of its numbers was found, or where
+    somebody found a difference; a login is seen by nobody, who has no answer to it."""
+    if op.kind in (WRITE, COMPARE):
+        blocks = range(op.given[0], op.given[0] + len(op.given[-1]))
+        return any(number in found for number in op.given[-1]) or any(("in", block) in found for block in blocks)
+    return op.kind in (OUT, SET, RESET, DOWN, UP)
+
+
+def lanes_of(ops):
+    """Who asks one after the other. At the end of a lane what was not answered is left out, where nobody can see whether it was done."""
+    lanes = collections.defaultdict(list)
+    for op in sorted(ops, key=lambda one: one.start):
+        lanes[op.lane].append(op)
+    found = numbers_found(ops) | {("in", op.given[0] + op.reply[2] // 512) for op in ops if op.reply and op.reply[1] == MISCOMPARE}
+    for lane in lanes.values():
+        while lane and lane[-1].end is None and not may_be_seen(lane[-1], found):
+            lane.pop()
+    return [lanes[lane] for lane in sorted(lanes, key=str)]
+
+
+def found_by(op):
+    """Block and number of what an answer says was there."""
+    if op.reply and op.reply[0] == GOOD and op.kind in (READ, COMPARE):
+        first, numbers = op.given[0], op.reply[2] if op.kind == READ else op.given[1]
+        return list(enumerate(numbers, first))
+    return []
+
+
+def keys_in(action, data):
+    """The keys that an answer to READ KEYS, READ RESERVATION or READ FULL STATUS tells."""
+    if action == 2 or len(data) < 16:
+        return
+    at = 8
+    while at + 8 <= len(data):
+        yield int.from_bytes(data[at:at + 8], "big")
+        at += 8 if action == 0 else 24 + int.from_bytes(data[at + 20:at + 24], "big") if action == 3 else len(data)
+
+
+def numbers_found(ops):
+    """The numbers of blocks that were found, and the keys."""
+    numbers = {number for op in ops for _, number in found_by(op)}
+    return numbers | {("key", key) for op in ops if op.kind == IN and op.reply and op.reply[2] for key in keys_in(op.given, op.reply[2])}
+
+
+class Search:
+    def __init__(self, ops, unit):
+        self.lanes, self.found = lanes_of(ops), numbers_found(ops)
+        # who found this number in this block: their lane and their place in it
+        self.finders = collections.defaultdict(list)
+        for lane, ops_ in enumerate(self.lanes):
+            for place, op in enumerate(ops_):
+                for found in found_by(op):
+                    self.finders[found].append((lane, place))
+        self.met, self.best, self.states = set(), (-1, (), (), unit), 0
+
+    def heads(self, at):
+        """The lanes whose next may come now: nothing that is not placed had ended before it was sent."""
+        nexts = [(lane, self.lanes[lane][place]) for lane, place in enumerate(at) if place < len(self.lanes[lane])]
+        first = min((op.end for _, op in nexts if op.end is not None), default=None)
+        found = [(lane, op) for lane, op in nexts if first is None or op.start <= first]
+        # first what ended first, what was not answered last
+        return sorted(found, key=lambda pair: (pair[1].end is None, pair[1].end or pair[1].start))
+
+    @staticmethod
+    def moved(at, lane):
+        return at[:lane] + (at[lane] + 1,) + at[lane + 1:]
+
+    def harmless(self, at, unit):
+        """The first that may come now and, answered so, leaves any unit as it is."""
+        for lane, op in self.heads(at):
+            if not leaves_all(op):
+                continue
+            then = unit.copy()
+            if then.apply(op) and then.blocks == unit.blocks:
+                return lane, op
+        return None
+
+    def overwrites(self, at, unit, then):
+        """Whether what somebody has still to find is gone then. Each number is written once, so it does not come back."""
+        return then.blocks != unit.blocks and any(
+            old != new and place >= at[lane] for block, (old, new) in enumerate(zip(unit.blocks, then.blocks))
+            for lane, place in self.finders.get((block, old), ()))
+
+    def must_be(self, op):
+        """Whether this was done, answered or not."""
+        if op.end is not None:
+            return not op.is_optional
+        if op.kind == OUT:
+            return ("key", op.given.new_key) in self.found and op.given.action in (REGISTER, REGISTER_AND_IGNORE)
+        return op.kind in (WRITE, COMPARE) and any(number in self.found for number in op.given[-1])
+
+    def cuts_off(self, at, op):
+        """Whether a login in another's place, or a restart, leaves behind what has still to come."""
+        if op.kind not in (ATTACH, RESTART):
+            return False
+        return any(self.must_be(other) for lane, place in zip(self.lanes, at) for other in lane[place:] if other is not op and other.nexus
+                   and (other.start < op.start if op.kind == RESTART else other.nexus == op.nexus and other.session < op.session))
+
+    def choices(self, at, unit):
+        """What may come next, with the unit behind it; the first to be tried last."""
+        found = []
+        for lane, op in self.heads(at):
+            then = unit.copy()
+            if then.apply(op) and not self.overwrites(self.moved(at, lane), unit, then) and not self.cuts_off(at, op):
+                found.append((self.moved(at, lane), then, op))
+            if op.is_optional:
+                found.append((self.moved(at, lane), unit, None))
+        return found[::-1]
+
+    def settle(self, at, unit, path):
+        """Places what changes nothing, whenever it comes."""
+        while (found := self.harmless(at, unit)) is not None:
+            at, path = self.moved(at, found[0]), (found[1], path)
+        return at, path
+
+    def is_whole(self, at):
+        return all(op.end is None for lane, place in zip(self.lanes, at) for op in lane[place:])
+
+    def note(self, at, unit, path):
+        if sum(at) > self.best[0]:
+            self.best = (sum(at), at, path, unit)
+
+    def run(self, unit):
+        open_ = [((0,) * len(self.lanes), unit, ())]
+        while open_:
+            at, unit, path = open_.pop()
+            at, path = self.settle(at, unit, path)
+            self.note(at, unit, path)
+            if self.is_whole(at):
+                return self.told(True, True)
+            key = (at, unit.identity())
+            if key in self.met:
+                continue
+            self.met.add(key)
+            if len(self.met) > MOST:
+                return self.told(False, False)
+            open_ += [(next_at, then, (op, path) if op else path) for next_at, then, op in self.choices(at, unit)]
+        return self.told(False, True)
+
+    def told(self, is_found, is_decided):
+        _, at, path, unit = self.best
+        placed = []
+        while path:
+            op, path = path
+            placed.append(op)
+        return Order(is_found, is_decided, placed[::-1], [op for _, op in self.heads(at)], len(self.met), unit)
+
+
+def order_of(ops, unit):
+    return Search(ops, unit).run(unit)
+
+
+def why_not(order, shown=8):
+    """What is to be said of a history that has no order."""
+    if order.is_found:
+        return ""
+    lines = ["no order of the commands gives these answers" if order.is_decided else f"not decided with {order.states} states"]
+    lines += [f"  behind {len(order.placed)} commands, the last of them"]
+    lines += [f"    {op}" for op in order.placed[-shown:]]
+    lines += ["  none of these can come next"] + [f"    {op}" for op in order.left]
+    unit = order.unit
+    lines += [f"  the unit there: blocks {unit.blocks} states {unit.states} type {unit.kind} keys {len(unit.keys)} lost {unit.is_lost}"]
+    return "\n".join(lines)
