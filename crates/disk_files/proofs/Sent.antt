@@ -120,7 +120,10 @@ preparer_send R F b c s t = recorded_send _ _ _ (preparer_type R F b c).to_one (
         search (file_log_send, sendable, crosses) depth 20,
         (
           search (flushes_send, flushes_sync, sendable, crosses) depth 20,
-          (search (sendable, crosses) depth 20, (search (sendable, crosses) depth 20, tt)),
+          (
+            search (sendable, crosses) depth 20,
+            (search (sendable, crosses) depth 20, (search (sendable, crosses) depth 20, (search sendable, tt))),
+          ),
         ),
       ),
     ),
@@ -139,7 +142,10 @@ preparer_sync R F b c s t = recorded_sync _ _ _ (preparer_type R F b c).to_one (
         search (file_log_sync, sendable, crosses) depth 20,
         (
           search (flushes_send, flushes_sync, sendable, crosses) depth 20,
-          (search (sendable, crosses) depth 20, (search (sendable, crosses) depth 20, tt)),
+          (
+            search (sendable, crosses) depth 20,
+            (search (sendable, crosses) depth 20, (search (sendable, crosses) depth 20, (search sendable, tt))),
+          ),
         ),
       ),
     ),
