@@ -8,6 +8,7 @@ use Rattle.std.specs.declared.fs.File.{File}
 use Rattle.std.specs.declared.io.traits.Read.{Ghosts as Reading}
 use Rattle.std.specs.declared.io.traits.Seek.{Ghosts as Seeking}
 use Rattle.std.specs.declared.io.traits.Write.{Ghosts as Writing}
+use Rattle.disk_files.proofs.backlog.Backlog.TheSendSync.{the_send as backlog_send, the_sync as backlog_sync}
 use Rattle.disk_files.proofs.file_log.FileLog.TheSendSync.{the_send as file_log_send, the_sync as file_log_sync}
 use Rattle.disk_files.proofs.flushes.Flushes.TheSendSync.{the_sync as flushes_sync}
 use Rattle.disk_files.specs.contracts.blocks.FileBlocks.{the_row as blocks_row, the_type as blocks_type}
@@ -122,7 +123,10 @@ preparer_send R F b c s t = recorded_send _ _ _ (preparer_type R F b c).to_one (
           search (flushes_send, flushes_sync, sendable, crosses) depth 20,
           (
             search (sendable, crosses) depth 20,
-            (search (sendable, crosses) depth 20, (search (sendable, crosses) depth 20, (search sendable, tt))),
+            (
+              search (sendable, crosses) depth 20,
+              (search (backlog_send, sendable, crosses) depth 20, (search (sendable, crosses) depth 20, tt)),
+            ),
           ),
         ),
       ),
@@ -144,7 +148,10 @@ preparer_sync R F b c s t = recorded_sync _ _ _ (preparer_type R F b c).to_one (
           search (flushes_send, flushes_sync, sendable, crosses) depth 20,
           (
             search (sendable, crosses) depth 20,
-            (search (sendable, crosses) depth 20, (search (sendable, crosses) depth 20, (search sendable, tt))),
+            (
+              search (sendable, crosses) depth 20,
+              (search (backlog_sync, sendable, crosses) depth 20, (search (sendable, crosses) depth 20, tt)),
+            ),
           ),
         ),
       ),
