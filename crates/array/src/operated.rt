@@ -68,10 +68,10 @@ fn said_by(list: &GroupsList) -> (u16, Access, Access) {
     (u16::from(owner), first, second)
 }
 
-// Whether a move changed anything.
-fn has_changed(change: Change) -> bool {
+// Whether a move changed the owner or the states.
+fn has_changed(change: &Change) -> bool {
     let changed = change.changed;
-    changed[0] || changed[1] || change.owner.is_some()
+    change.owner.is_some() || changed[0] || changed[1]
 }
 
 // One who moves units by another, and tells the log of each move that changed something, and of the unit that stays.
@@ -87,7 +87,7 @@ impl<R: Clock, M: Moves> ToldMoves<'_, R, M> {
     fn tell(&self, place: usize, list: &GroupsList, end: Result<Change, MoveFault>) {
         let (owner, first, second) = said_by(list);
         let event = match end {
-            Ok(change) if !has_changed(change) => return,
+            Ok(change) if !has_changed(&change) => return,
             Ok(_) => Event::GroupsSet(number(place), owner, first, second, By::Console),
             Err(why) => Event::NotMoved(number(place), owner, stayed(why), By::Console),
         };
