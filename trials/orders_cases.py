@@ -138,6 +138,7 @@ RIGHT = {
     "a second `down` that could come where it changes nothing, and has to come where it does": """
         0..1 m down 2
         2..3 a ready -> changed
+        2..3 b ready -> changed
         4..30 m down 2
         5..9 b set 0 1 -> GOOD
         10..11 a ready -> changed
@@ -233,7 +234,7 @@ def main():
             print(f"{'ok   ' if is_so else 'WRONG'} {'taken  ' if order.is_found else 'refused'} {name}")
             if wanted and not is_so:
                 print(why_not(order))
-    print(f"{len(RIGHT)} that have an order, {len(WRONG)} that have none")
+    print(f"{len(RIGHT)} that have an order and {len(WRONG)} that have none, {'all' if is_well else 'NOT all'} as they should be")
     sys.exit(0 if is_well else 1)
 
 
