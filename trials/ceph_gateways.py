@@ -41,7 +41,7 @@ ADDRESS = {"a": "10.91.0.2", "b": "10.91.0.3"}
 PORT, SHELL = 3260, 2222
 MEMORY = "1024"
 SIZES = {"array-files": "64M"}
-WORKS = 8
+WORKS = 20
 INSIDE = "CEPH_GATEWAYS_NETWORK"
 
 

@@ -63,11 +63,15 @@ class Witness:
     """A host that writes without a pause by one gateway, then flushes, whatever becomes of that gateway."""
 
     def __init__(self, port, address=HOST, timeout=60):
-        self.session = Session(address, port, TARGET, "iqn.2000-01.test:witness", isid=ISID + 8, timeout=timeout)
-        self.session.ready(UNIT)
+        self.at, self.timeout = (address, port), timeout
+        self.log_in()
         self.good, self.is_flushed, self.is_over = {}, False, threading.Event()
         self.ended = "nothing"
         self.thread = threading.Thread(target=self.work, daemon=True)
+
+    def log_in(self):
+        self.session = Session(*self.at, TARGET, "iqn.2000-01.test:witness", isid=ISID + 8, timeout=self.timeout)
+        self.session.ready(UNIT)
 
     def work(self):
         count = 0
@@ -104,8 +108,13 @@ class Witness:
         lba, count = BLOCKS + 1, 1 << 40
         try:
             reply = self.write(lba, count, True)
-        except LOST as lost:
-            return False, repr(lost)
+        except LOST:
+            # its session ended while the gateway was cut off
+            try:
+                self.log_in()
+                reply = self.write(lba, count, True)
+            except LOST as lost:
+                return False, repr(lost)
         return reply.status == GOOD, "GOOD" if reply.status == GOOD else f"status {reply.status:02x} sense {reply.sense_text()}"
 
     def check(self, session):

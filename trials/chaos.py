@@ -49,8 +49,14 @@ from orders import order_of, why_not
 from reservations import NEXUSES
 from running import ARRAYD, TOP, Array, Wrong, made
 
-# So long nothing is answered, in seconds, before a run counts as one that stands still.
+# So long nothing is answered, in seconds, before a run counts as one that stands still; longer where much else runs.
 STILL = 15
+
+
+def patience():
+    return STILL * max(1, os.getloadavg()[0] / (os.cpu_count() or 1))
+
+
 FOUND = os.path.join(TOP, "trials", "chaos_found.txt")
 
 Result = collections.namedtuple("Result", "seed findings commands points stops takes faults seconds locks")
@@ -125,7 +131,7 @@ class Run:
                 seen, since = self.load.progress, time.monotonic()
             if until and time.monotonic() > until:
                 break
-            if time.monotonic() - since > STILL or array.process.poll() is not None:
+            if time.monotonic() - since > patience() or array.process.poll() is not None:
                 self.stands_still(array, threads)
                 return False
         self.load.is_over = bool(kills)
@@ -146,7 +152,7 @@ class Run:
         if status is not None:
             self.findings.append(f"the array ended with status {status}: {array.process.stderr.read().strip()[-300:]}")
         else:
-            self.findings.append(f"nothing was answered for {STILL} s")
+            self.findings.append(f"nothing was answered for {patience():.0f} s")
             ring = self.chaos.cycle()
             if ring:
                 self.findings.append("these threads wait for each other: " + ", ".join(map(str, ring)))

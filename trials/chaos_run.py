@@ -6,6 +6,7 @@
 """
 
 import bisect
+import collections
 import ctypes
 import functools
 import glob
@@ -95,28 +96,30 @@ class Chaos:
                 for edge in self.seen.edges if edge.key]
 
     def told_of_threads(self, names, classes):
-        """A line for each thread that holds a lock or waits for one, and for the others in which call they are."""
-        now, lines = time.monotonic_ns(), []
-        holders = {}
-        for thread in self.seen.threads:
-            for held in thread.holds[: thread.holds_count] if thread.is_there else ():
-                holders.setdefault(held.lock, []).append(thread.place)
-        for thread in sorted((one for one in self.seen.threads if one.is_there), key=lambda one: (not one.holds_count, one.place)):
-            told = [f"thread {thread.place}"]
+        """A line for each thread that holds a lock or waits for one, and one for the others: in which calls they are."""
+        now, lines, others, holders = time.monotonic_ns(), [], collections.Counter(), {}
+        threads = sorted((one for one in self.seen.threads if one.is_there), key=lambda one: one.place)
+        for thread in threads:
             for held in thread.holds[: thread.holds_count]:
-                site = self.seen.sites[held.site]
-                told.append(f"holds {classes.get(site.key, '?')} {held.lock:x} for {(now - held.since) / 1e9:.1f} s, taken by "
-                            + " < ".join(names.of_site(site)[:2]))
+                holders.setdefault(held.lock, []).append(f"thread {thread.place}")
+        for thread in threads:
+            told = [self.told_of_held(held, now, names, classes) for held in thread.holds[: thread.holds_count]]
             lock = thread.wanted or (thread.futex if thread.futex in holders else 0)
             if lock:
                 site = self.seen.sites[thread.wanted_site]
-                by = ", ".join(f"thread {place}" for place in holders.get(lock, [])) or "nobody that is known"
+                by = ", ".join(holders.get(lock, [])) or "nobody that is known"
                 told.append(f"waits for {classes.get(site.key, '?')} {lock:x}, which {by} holds, at " + " < ".join(names.of_site(site)[:2]))
-            elif thread.called != -1:
-                told.append(f"in {CALLS.get(thread.called, thread.called)} for {(now - thread.since) / 1e9:.1f} s"
-                            + (f" at {thread.futex:x}" if thread.futex else ""))
-            lines.append("; ".join(told))
-        return lines
+            call = CALLS.get(thread.called, f"call {thread.called}") or "no call"
+            if told:
+                lines.append(f"thread {thread.place}: " + "; ".join([*told, f"in {call} for {max(0, now - thread.since) / 1e9:.1f} s"]))
+            else:
+                others[call] += 1
+        return lines + ["the others: " + ", ".join(f"{count} in {call}" for call, count in others.most_common())]
+
+    def told_of_held(self, held, now, names, classes):
+        site = self.seen.sites[held.site]
+        return (f"holds {classes.get(site.key, '?')} {held.lock:x} for {(now - held.since) / 1e9:.1f} s, taken by "
+                + " < ".join(names.of_site(site)[:2]))
 
     def cycle(self):
         """Threads that wait for each other in a ring, where there are such."""

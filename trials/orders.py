@@ -55,6 +55,11 @@ def lanes_of(ops):
     return [lanes[lane] for lane in sorted(lanes, key=str)]
 
 
+def may_be(block):
+    """The numbers that a block may be."""
+    return block if isinstance(block, frozenset) else {block}
+
+
 def found_by(op):
     """Block and number of what an answer says was there."""
     if op.reply and op.reply[0] == GOOD and op.kind in (READ, COMPARE):
@@ -115,8 +120,8 @@ class Search:
     def overwrites(self, at, unit, then):
         """Whether what somebody has still to find is gone then. Each number is written once, so it does not come back."""
         return then.blocks != unit.blocks and any(
-            old != new and place >= at[lane] for block, (old, new) in enumerate(zip(unit.blocks, then.blocks))
-            for lane, place in self.finders.get((block, old), ()))
+            place >= at[lane] for block, (old, new) in enumerate(zip(unit.blocks, then.blocks)) if old != new
+            for number in may_be(old) - may_be(new) for lane, place in self.finders.get((block, number), ()))
 
     def must_be(self, op):
         """Whether this was done, answered or not."""

@@ -6,7 +6,7 @@ usage: trials/orders_cases.py
 
 A history is a text, a line for each command: when it was sent and when its answer had come (`-`: none came), who asked, what, and the
 answer. `a` to `d` are the nexuses, `a1` a's second session. A line `a 0..1 login` may be left out: each has logged in before, and was
-told of it.
+told of it. A line `hangs`: the disk may have hung past a deadline.
 """
 
 import struct
@@ -78,7 +78,7 @@ def op_of(line):
 
 
 def history(text):
-    ops = [op_of(line) for line in text.strip().splitlines()]
+    ops = [op_of(line) for line in text.strip().splitlines() if line.strip() != "hangs"]
     begun = {op.lane for op in ops if op.kind == ATTACH}
     for place, who in enumerate(dict.fromkeys(op.lane for op in ops if op.nexus)):
         if who not in begun:
@@ -138,6 +138,7 @@ RIGHT = {
     "a second `down` that could come where it changes nothing, and has to come where it does": """
         0..1 m down 2
         2..3 a ready -> changed
+        2..3 b ready -> changed
         4..30 m down 2
         5..9 b set 0 1 -> GOOD
         10..11 a ready -> changed
@@ -149,6 +150,13 @@ RIGHT = {
         6..7 a1 ready -> reset
         8..9 a1 read 1 1 -> GOOD 8
         10..11 b read 1 1 -> GOOD 8""",
+    "a write that failed since its disk hung, and is there": """
+        hangs
+        0..5 a write 0 5,6 -> unwritten
+        1..4 b read 0 2 -> GOOD 0,0
+        6..7 b read 0 2 -> GOOD 5,0
+        8..9 a read 1 1 -> unread
+        10..11 b read 0 2 -> GOOD 5,0""",
     "registrations that outlast a restart": """
         0..1 a register 0 11 aptpl -> GOOD
         2..3 c register 0 12 aptpl -> GOOD
@@ -195,6 +203,13 @@ WRONG = {
         0..1 m down 1
         2..3 a ready -> changed
         4..5 a write 0 1 -> GOOD""",
+    "a write that failed, is found, and then is not there": """
+        hangs
+        0..1 a write 0 5 -> unwritten
+        2..3 b read 0 1 -> GOOD 5
+        4..5 b read 0 1 -> GOOD 0""",
+    "a write that failed, though no disk hung": """
+        0..1 a write 0 5 -> unwritten""",
     "a reset that is told twice": """
         0..1 a reset
         2..3 b ready -> reset
@@ -213,13 +228,13 @@ def main():
     is_well = True
     for wanted, histories in ((True, RIGHT), (False, WRONG)):
         for name, text in histories.items():
-            order = order_of(history(text), Unit(0, 4))
+            order = order_of(history(text), Unit(0, 4, may_fail="hangs" in text))
             is_so = order.is_found == wanted and order.is_decided
             is_well = is_well and is_so
             print(f"{'ok   ' if is_so else 'WRONG'} {'taken  ' if order.is_found else 'refused'} {name}")
             if wanted and not is_so:
                 print(why_not(order))
-    print(f"{len(RIGHT)} that have an order, {len(WRONG)} that have none")
+    print(f"{len(RIGHT)} that have an order and {len(WRONG)} that have none, {'all' if is_well else 'NOT all'} as they should be")
     sys.exit(0 if is_well else 1)
 
 
