@@ -70,7 +70,7 @@ def slow_folder(below, pace):
 
 
 class Two(Arrayd):
-    """An arrayd of two units, with this program and this environment."""
+    """An arrayd of one unit or two, with this program, with a deadline or without one."""
 
     def __init__(self, disks, program=ARRAYD, deadline=None):
         Array.__init__(self, disks, program=program, more={"ARRAYD_DEADLINE": deadline} if deadline else None)
@@ -78,11 +78,12 @@ class Two(Arrayd):
 
 
 class TgtOfTwo(Tgt):
-    """A tgt of two units."""
+    """A tgt of one unit or two."""
 
     def __init__(self, disks):
         super().__init__(disks[0])
-        self.ask("logicalunit", "new", "--lun", "2", "-b", disks[1])
+        if len(disks) > 1:
+            self.ask("logicalunit", "new", "--lun", "2", "-b", disks[1])
         self.units = [1, 2]
 
 
@@ -97,7 +98,7 @@ class Bench:
                               "CACHE_PACE": str(asked.pace)}
         self.disks = [os.path.join(self.folder, name) for name in ("first.img", "second.img")]
 
-    def serve(self, start):
+    def serve(self, start, units=2):
         for name in ("first.img", "second.img", "first.img.reg", "second.img.reg"):
             if os.path.exists(os.path.join(self.folder, name)):
                 os.unlink(os.path.join(self.folder, name))
@@ -110,7 +111,7 @@ class Bench:
                     file.read(CACHED)
         os.environ.update(self.preloaded or {})
         try:
-            return start(self.disks)
+            return start(self.disks[:units])
         finally:
             os.environ.pop("LD_PRELOAD", None)
 
@@ -159,7 +160,8 @@ def keeps(bench, start, work, size, writers):
 
 
 def burst(bench, start):
-    server = bench.serve(start)
+    """Of an array of one unit: what may be unflushed is divided by the units."""
+    server = bench.serve(start, units=1)
     try:
         rate, worst = bench.run(server, *BULK, seconds="256x")
         return f"{rate * 262144 / 1e6:,.0f} MB/s, at most {worst:,.1f} ms" if rate else worst

@@ -104,8 +104,8 @@ def ended(words, **how):
 
 
 def faults(errors):
-    """Each line of standard error without what stands behind its second colon."""
-    return "\n".join(": ".join(line.split(": ")[:2]) for line in errors.split("\n"))
+    """Each line of standard error without what stands behind its second colon, as a name that goes over several lines."""
+    return "\n".join(": ".join(line.split(": ")[:2]) for line in errors.split("\n") if line.startswith("arrayd"))
 
 
 class Array:
