@@ -67,7 +67,7 @@ def flavour_of(seed):
     dice = random.Random(seed)
     hangs, deadline = dice.random() < 0.25, dice.random() < 0.3
     return {"out": dice.choice((0, 6, 14)), "leaves": dice.choice((0, 0.03, 0.1)), "reset": dice.choice((0, 1, 3)), "set": dice.choice((0, 1, 3)),
-            "operator": dice.choice((0, 5, 10)), "count": dice.choice((15, 25, 40)), "hosts": dice.choice((4, 6, 8)),
+            "operator": dice.choice((0, 5, 10)), "count": dice.choice((10, 16, 28)), "hosts": dice.choice((3, 5, 8)),
             "hangs": hangs, "deadline": deadline, "restart": dice.random() < 0.3,
             "permille": dice.choice((10, 40, 120)), "stops": dice.random() < 0.8, "log": dice.random() < 0.5}
 
