@@ -59,7 +59,7 @@ def patience():
 
 FOUND = os.path.join(TOP, "trials", "chaos_found.txt")
 
-Result = collections.namedtuple("Result", "seed findings commands points stops takes faults seconds locks")
+Result = collections.namedtuple("Result", "seed findings commands points stops takes faults seconds locks undecided")
 
 
 def flavour_of(seed):
@@ -67,7 +67,7 @@ def flavour_of(seed):
     dice = random.Random(seed)
     hangs, deadline = dice.random() < 0.25, dice.random() < 0.3
     return {"out": dice.choice((0, 6, 14)), "leaves": dice.choice((0, 0.03, 0.1)), "reset": dice.choice((0, 1, 3)), "set": dice.choice((0, 1, 3)),
-            "operator": dice.choice((0, 5, 10)), "count": dice.choice((15, 25, 40)), "hosts": dice.choice((4, 6, 8)),
+            "operator": dice.choice((0, 5, 10)), "count": dice.choice((10, 16, 28)), "hosts": dice.choice((3, 5, 8)),
             "hangs": hangs, "deadline": deadline, "restart": dice.random() < 0.3,
             "permille": dice.choice((10, 40, 120)), "stops": dice.random() < 0.8, "log": dice.random() < 0.5}
 
@@ -231,7 +231,9 @@ class Run:
                 pickle.dump(self.load.ops, file)
         for unit, ops in enumerate(self.load.ops):
             order = order_of(ops, Unit(unit, BLOCKS, self.may_fail, self.stays_lost))
-            if not order.is_found:
+            if not order.is_decided:
+                self.counted["undecided"] += 1
+            elif not order.is_found:
                 self.findings.append(f"unit {unit}: {why_not(order)}")
 
     def result(self):
@@ -244,7 +246,7 @@ class Run:
         counted = self.counted
         commands = sum(len(ops) for ops in self.load.ops) if self.load else 0
         return Result(self.seed, self.findings, commands, counted["points"], counted["stops"], counted["takes"], counted["faults"],
-                      time.monotonic() - self.began, self.locks)
+                      time.monotonic() - self.began, self.locks, counted["undecided"])
 
 
 # ---- many seeds
@@ -300,7 +302,9 @@ def many(seeds, words, built):
         tell(result, words.seed is not None)
     if words.locks:
         tell_locks(results)
-    found = [result.seed for result in results if result.findings]
+    found, undecided = ([result.seed for result in results if told(result)] for told in (lambda one: one.findings, lambda one: one.undecided))
+    if undecided:
+        print(f"not decided, since too much of it was at once: a history of seeds {sorted(undecided)}")
     print(f"{len(results)} seeds, {sum(one.commands for one in results)} commands, {sum(one.points for one in results)} points, "
           f"{sum(one.stops for one in results)} stops, {sum(one.takes for one in results)} locks taken, "
           f"{time.monotonic() - began:.0f} s: " + (f"found by {sorted(found)}" if found else "nothing found"))

@@ -21,6 +21,8 @@ from running import TOP
 # As in trials/chaos/chaos.h.
 MOST_THREADS, MOST_HELD, MOST_SITES, MOST_EDGES, FRAMES = 256, 12, 512, 1024, 4
 FAULTS = {"lost_wake": 1, "stale_read": 2, "early_reply": 4, "lost_save": 8}
+# One of so many calls has the fault; a save is seen only where it was the last before a restart.
+FAULT_IN = {"lost_save": 2}
 CALLS = {0: "read", 1: "write", 17: "pread", 18: "pwrite", 35: "nanosleep", 44: "send", 45: "recv", 202: "futex", 288: "accept",
          -1: "", (1 << 64) - 2: "a call on a disk that hangs", -2: "a call on a disk that hangs"}
 
@@ -70,7 +72,7 @@ class Names:
 class Chaos:
     """A life of a program under a seed. `permille`: at so many of a thousand points a thread sleeps."""
 
-    def __init__(self, folder, built, seed, permille=40, has_stops=True, fault=None, fault_in=20):
+    def __init__(self, folder, built, seed, permille=40, has_stops=True, fault=None):
         self.path = os.path.join(folder, f"chaos-{time.monotonic_ns()}")
         with open(self.path, "wb") as file:
             file.truncate(ctypes.sizeof(Shared))
@@ -78,7 +80,7 @@ class Chaos:
             self.map = mmap.mmap(file.fileno(), ctypes.sizeof(Shared))
         self.seen = Shared.from_buffer(self.map)
         self.seen.seed, self.seen.permille, self.seen.has_stops = seed, permille, has_stops
-        self.seen.faults, self.seen.fault_in = FAULTS.get(fault, 0), fault_in
+        self.seen.faults, self.seen.fault_in = FAULTS.get(fault, 0), FAULT_IN.get(fault, 20)
         self.seen.disk = os.path.join(folder, "disk0").encode()
         self.environment = {"LD_PRELOAD": built, "CHAOS": self.path}
 

@@ -13,13 +13,15 @@ What was not answered may have been done, or not.
 """
 
 import collections
+import random
 
 from chaos_model import ATTACH, COMPARE, DOWN, FLUSH, IN, MISCOMPARE, OUT, READ, READY, RESET, RESTART, SET, STATES, UP, WRITE
 from initiator import BUSY, CHECK_CONDITION, GOOD, RESERVATION_CONFLICT
 from reservations import REGISTER, REGISTER_AND_IGNORE
 
-# So many states at most; a history that needs more is told as one that was not decided.
-MOST = 30_000
+# So many states at most; a history that needs more is told as one that was not decided. An unlucky choice early on may cost them all:
+# so the search begins anew some times, each with other choices first, and only the last goes on so far.
+FEW, MOST, TIMES = 2_000, 30_000, 3
 
 Order = collections.namedtuple("Order", "is_found is_decided placed left states unit")
 
@@ -85,7 +87,10 @@ def numbers_found(ops):
 
 
 class Search:
-    def __init__(self, ops, unit):
+    def __init__(self, ops, unit, dice=None, most=MOST):
+        self.dice, self.most = dice, most
+        # what would be tried first by when it ended is tried up to so much later
+        self.spread = max((op.end - op.start for op in ops if op.end is not None), default=0)
         self.lanes, self.found = lanes_of(ops), numbers_found(ops)
         # who found this number in this block: their lane and their place in it
         self.finders = collections.defaultdict(list)
@@ -101,7 +106,8 @@ class Search:
         first = min((op.end for _, op in nexts if op.end is not None), default=None)
         found = [(lane, op) for lane, op in nexts if first is None or op.start <= first]
         # first what ended first, what was not answered last
-        return sorted(found, key=lambda pair: (pair[1].end is None, pair[1].end or pair[1].start))
+        later = (lambda: self.dice.random() * self.spread) if self.dice else lambda: 0
+        return sorted(found, key=lambda pair: (pair[1].end is None, (pair[1].end or pair[1].start) + later()))
 
     @staticmethod
     def moved(at, lane):
@@ -131,6 +137,18 @@ class Search:
             return ("key", op.given.new_key) in self.found and op.given.action in (REGISTER, REGISTER_AND_IGNORE)
         return op.kind in (WRITE, COMPARE) and any(number in self.found for number in op.given[-1])
 
+    def does_nothing(self, op, then):
+        """Whether what was not answered, and somebody found, was refused here."""
+        if op.end is not None or not self.must_be(op):
+            return False
+        if op.kind == OUT:
+            return op.given.new_key not in then.keys.values()
+        return any(number in self.found and number not in may_be(then.blocks[at]) for at, number in enumerate(op.given[-1], op.given[0]))
+
+    def is_possible(self, at, lane, op, unit, then):
+        """Whether what was found can still be found behind this."""
+        return not (self.overwrites(self.moved(at, lane), unit, then) or self.cuts_off(at, op) or self.does_nothing(op, then))
+
     def cuts_off(self, at, op):
         """Whether a login in another's place, or a restart, leaves behind what has still to come."""
         if op.kind not in (ATTACH, RESTART):
@@ -143,7 +161,7 @@ class Search:
         found = []
         for lane, op in self.heads(at):
             then = unit.copy()
-            if then.apply(op) and not self.overwrites(self.moved(at, lane), unit, then) and not self.cuts_off(at, op):
+            if then.apply(op) and self.is_possible(at, lane, op, unit, then):
                 found.append((self.moved(at, lane), then, op))
             if op.is_optional:
                 found.append((self.moved(at, lane), unit, None))
@@ -174,7 +192,7 @@ class Search:
             if key in self.met:
                 continue
             self.met.add(key)
-            if len(self.met) > MOST:
+            if len(self.met) > self.most:
                 return self.told(False, False)
             open_ += [(next_at, then, (op, path) if op else path) for next_at, then, op in self.choices(at, unit)]
         return self.told(False, True)
@@ -189,6 +207,10 @@ class Search:
 
 
 def order_of(ops, unit):
+    for seed in range(TIMES):
+        order = Search(ops, unit, random.Random(seed) if seed else None, FEW).run(unit)
+        if order.is_decided:
+            return order
     return Search(ops, unit).run(unit)
 
 
