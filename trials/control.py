@@ -28,7 +28,7 @@ MOVED = [f"unit={unit} owner={owner} states={states} by=console"
          for unit, owner, states in [(0, 2, "3,0"), (1, 2, "3,0"), (2, 2, "3,0"), (0, 1, "0,1"), (1, 2, "1,0"), (2, 1, "0,1"),
                                      (0, 1, "0,3"), (1, 1, "0,3"), (2, 1, "0,3"), (0, 1, "0,1"), (1, 2, "1,0"), (2, 1, "0,1"),
                                      (0, 1, "0,3"), (1, 1, "0,3"), (2, 1, "0,3")]]
-HELP = ["status", "sessions", "keys U", "end TSIH", "up 1, up 2", "version", "help"]
+HELP = ["status", "acknowledge", "sessions", "keys U", "end TSIH", "up 1, up 2", "version", "help"]
 
 
 def array_in(folder, units=1, log=None, more=None):
@@ -85,7 +85,7 @@ def words(folder):
         is_so("status then", asked(folder, "status"), array.ask("status", 2))
         with open(f"{TOP}/VERSION", encoding="ascii") as file:
             is_so("version", asked(folder, "version"), [f"arrayd {file.read().strip()}"])
-        is_so("help", [re.split("  +", line)[0] for line in asked(folder, "help")], HELP)
+        is_so("help", [line[:12].rstrip() for line in asked(folder, "help")], HELP)
         is_so("sessions", asked(folder, "sessions"), [])
         for text in ("", "no", "STATUS", "quit", "down 1", " status", "status ", "end", "end ", "end x", "end -1", "end 65536", "end 1 2",
                      "sessions 1", "\u00e9"):
