@@ -88,7 +88,7 @@ B comes 2 HOST_B / 15:02 WELCOME_2
 B power 9:01
 B does WRITE 9:01 5:000200 pattern 512
 0 shows 10
-console down 1 / quit = not moved 0
+console down 1 / quit = not moved 0 / not flushed 0
 disk open
 "#
 }
