@@ -17,6 +17,8 @@ from running import TARGET
 
 UNITS, BLOCKS, AT_ONCE = 2, 8, 4
 LOST = (Closed, Refused, OSError)
+# So many seconds an answer may take; a run that stands still is told before, unless much else runs.
+ANSWERED_IN = 120
 
 
 def block_of(number):
@@ -75,7 +77,7 @@ class Host(threading.Thread):
         for unit, op in enumerate(ops):
             self.load.ops[unit].append(op)
         old = self.session
-        self.session = Session(*self.load.array.portal(self.nexus.group), TARGET, self.nexus.name, self.nexus.isid, self.keys)
+        self.session = Session(*self.load.array.portal(self.nexus.group), TARGET, self.nexus.name, self.nexus.isid, self.keys, ANSWERED_IN)
         for op in ops:
             op.end = time.monotonic_ns()
         self.load.tsihs[self.nexus] = self.session.tsih
@@ -210,6 +212,9 @@ class Host(threading.Thread):
                     if self.session is None:
                         self.log_in()
                     self.step()
+                except TimeoutError:
+                    self.load.faults.append(f"{self.nexus}: no answer for {ANSWERED_IN} s")
+                    self.forget()
                 except LOST:
                     self.forget()
         except Exception as fault:  # it is told with the run

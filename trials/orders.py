@@ -134,7 +134,7 @@ class Search:
         if op.end is not None:
             return not op.is_optional
         if op.kind == OUT:
-            return ("key", op.given.new_key) in self.found and op.given.action in (REGISTER, REGISTER_AND_IGNORE)
+            return op.given.new_key and ("key", op.given.new_key) in self.found and op.given.action in (REGISTER, REGISTER_AND_IGNORE)
         return op.kind in (WRITE, COMPARE) and any(number in self.found for number in op.given[-1])
 
     def does_nothing(self, op, then):
