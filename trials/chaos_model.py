@@ -178,14 +178,26 @@ class Unit(Model):
             return GOOD, None, self.seen(first, op.reply[2] if op.reply else None, count)
         if op.kind == WRITE:
             return self.write(op, *op.given)
-        first, old, new = op.given
         if self.fails(op, (READ_FAILED,)):
             return CHECK_CONDITION, READ_FAILED, None
-        found = self.seen(first, old, len(old))
-        for at, (one, other) in enumerate(zip(found, old)):
-            if one != other:
-                return CHECK_CONDITION, MISCOMPARE, at * 512 + first_difference(one, other)
+        first, old, new = op.given
+        told = op.reply[2] if op.reply and op.reply[1] == MISCOMPARE else None
+        for at, number in enumerate(old):
+            offset = self.difference(first + at, number, told - at * 512 if told is not None and told // 512 == at else None)
+            if offset is not None:
+                return CHECK_CONDITION, MISCOMPARE, at * 512 + offset
         return self.write(op, first, new)
+
+    def difference(self, at, number, told):
+        """The first byte in which a block differs from that of a number. Where it may be one of several, it is that which was told."""
+        ones = self.blocks[at] if isinstance(self.blocks[at], frozenset) else frozenset((self.blocks[at],))
+        if told is not None:
+            ones = frozenset(one for one in ones if one != number and first_difference(one, number) == told) or ones
+        elif number in ones:
+            ones = frozenset((number,))
+        one = min(ones)
+        self.blocks = (*self.blocks[:at], one if len(ones) == 1 else ones, *self.blocks[at + 1:])
+        return None if one == number else first_difference(one, number)
 
     def seen(self, first, told, count):
         """What a read finds: where a block may be one of several, what it told, if it is one of these."""

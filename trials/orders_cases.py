@@ -157,6 +157,12 @@ RIGHT = {
         6..7 b read 0 2 -> GOOD 5,0
         8..9 a read 1 1 -> unread
         10..11 b read 0 2 -> GOOD 5,0""",
+    "a comparison with a block that may be one of two": """
+        hangs
+        0..5 a write 0 5 -> unwritten
+        6..7 b compare 0 0 6 -> differs 7
+        8..9 b read 0 1 -> GOOD 5
+        10..11 a compare 0 5 7 -> GOOD""",
     "registrations that outlast a restart": """
         0..1 a register 0 11 aptpl -> GOOD
         2..3 c register 0 12 aptpl -> GOOD
@@ -207,6 +213,11 @@ WRONG = {
         hangs
         0..1 a write 0 5 -> unwritten
         2..3 b read 0 1 -> GOOD 5
+        4..5 b read 0 1 -> GOOD 0""",
+    "a comparison that finds a difference, and then a block that has none": """
+        hangs
+        0..1 a write 0 5 -> unwritten
+        2..3 b compare 0 0 6 -> differs 7
         4..5 b read 0 1 -> GOOD 0""",
     "a write that failed, though no disk hung": """
         0..1 a write 0 5 -> unwritten""",
