@@ -15,7 +15,7 @@ from running import TOP
 # The file, what stands there, and what is put in its place; each stands there once.
 PLANTS = {
     # who ends a session takes two locks in another order than who logs in
-    "deadlock": ("crates/array/src/administered.rt", "        self.server.device.sessions.lock(rt).shut(tsih)\n",
+    "deadlock": ("crates/array_operations/src/administered.rt", "        self.server.device.sessions.lock(rt).shut(tsih)\n",
                  "        let mut sessions = self.server.device.sessions.lock(rt);\n"
                  "        let _turn = self.server.device.beginning.lock(rt);\n"
                  "        sessions.shut(tsih)\n"),
