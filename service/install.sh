@@ -18,10 +18,10 @@ configuration() {
 
 install -D -m 0755 "$program" "$DESTDIR/usr/sbin/arrayd"
 install -D -m 0755 "$here/arrayd-reg" "$DESTDIR/usr/sbin/arrayd-reg"
-for command in arrayd-run arrayd-console arrayd-status; do
+for command in arrayd-run arrayd-console arrayd-status arrayd-prepare arrayd-watch; do
     install -D -m 0755 "$here/$command" "$DESTDIR/usr/libexec/arrayd/$command"
 done
-for unit in arrayd@.service arrayd-status@.socket arrayd-status@.service; do
+for unit in arrayd@.service arrayd-prepare@.service arrayd-status@.socket arrayd-status@.service arrayd-watch@.timer arrayd-watch@.service; do
     install -D -m 0644 "$here/$unit" "$DESTDIR/usr/lib/systemd/system/$unit"
 done
 install -D -m 0644 "$here/arrayd.sysusers" "$DESTDIR/usr/lib/sysusers.d/arrayd.conf"
@@ -35,7 +35,7 @@ done
 install -d -m 0755 "$documents/docs" "$documents/examples"
 install -m 0644 "$top/README.md" "$top/CHANGELOG.md" "$top/CONTRIBUTING.md" "$top/SECURITY.md" "$documents"
 install -m 0644 "$top"/docs/*.* "$documents/docs"
-install -m 0644 "$here/example.conf" "$here/hosts.conf" "$documents/examples"
+install -m 0644 "$here/example.conf" "$documents/examples"
 install -m 0755 "$here/fence_ceph_blocklist" "$documents/examples"
 # a dashboard for Grafana, and rules for Prometheus with their tests, where there are any
 for dashboard in "$here"/*.json "$here"/arrayd-alerts*.yml; do

@@ -1,7 +1,8 @@
 #!/bin/sh
 # Runs the array as a service does, by the service's own scripts and without systemd: starts it, asks `status`, takes a controller
-# down, stops it by `quit`, starts it anew, ends it by SIGTERM; all by the FIFOs of its console. Then what checks the service's files,
-# where it is installed: systemd-analyze, mandoc. Ends with status 1 where something is not as it has to be.
+# down, stops it by `quit`, starts it anew, ends it by SIGTERM; all by the FIFOs of its console. Then who may only look, what is told of
+# its health, and what systemd is told of its disks and hosts; and what checks the service's files, where it is installed:
+# systemd-analyze, mandoc. Ends with status 1 where something is not as it has to be.
 #
 # usage: trials/service.sh
 cd "$(dirname "$0")/.." || exit 1
@@ -124,14 +125,113 @@ ends
 is 'there is none to a disk that is not there' "$(cat "$place/complains") $ended" "arrayd-run: there is no $place/nowhere for unit2 1"
 is 'and none was made' "$(ls "$place/state" | grep -c unit2)" 0
 
+# a folder is the array's, and who asks may be root: no link in it is followed
+echo stays > "$place/other"
+mkdir "$place/linked"
+mkfifo "$place/linked/told"
+ln -s "$place/other" "$place/linked/console"
+is 'a console that is a link is none' "$(service/arrayd-console "$place/linked" quit 2> /dev/null; echo $?) $(cat "$place/other")" '3 stays'
+
+# what may be asked by who may only look, and what the watch tells
+export ARRAYD_CONTROL="$place/run/control"
+if command -v systemd-socket-activate > /dev/null; then
+    begin unit0 unit1
+    systemd-socket-activate -l "$place/run.status" service/arrayd-status --answer "$place/run" 2> /dev/null &
+    door=$!
+    sleep 1
+    look() {
+        service/arrayd-status "$place/run" "$@" 2> /dev/null
+        echo $?
+    }
+    is 'who may look asks for status' "$(look | sed 's/ entries.*//')" 'unit 0 owner 1 states 0 1 generation 0 keys 0 type 0
+unit 1 owner 2 states 1 0 generation 0 keys 0 type 0
+0'
+    is 'for sessions, keys and the version' "$(look sessions) $(look keys 0) $(look keys 7) $(look version | head -1)" "0 0 no unit
+0 $("$ARRAYD" --version)"
+    is 'and for nothing else' "$(look quit) $(look down 1) $(look end 3) $(look up 1)" '2 2 2 2'
+    refused=$(python3 - "$place/run.status" << 'END'
+import socket, sys
+for line in (b"quit\n", b"down 1\n", b"status\nquit\n", b"status; quit\n", b"--limit 1 quit\n", b"x" * 4096):
+    with socket.socket(socket.AF_UNIX) as way:
+        way.settimeout(60)
+        way.connect(sys.argv[1])
+        try:
+            way.sendall(line)
+            way.shutdown(socket.SHUT_WR)
+            print(line[:16], len(way.recv(65536)) > 0)
+        except OSError:
+            print(line[:16], False)
+END
+)
+    is 'whatever is sent' "$(echo "$refused" | grep -c False) $(console status | grep -c 'states [01] [01] ')" '5 2'
+    service/arrayd-watch "$place/run" > "$place/watch" 2>&1
+    is 'the watch has nothing to say of an array that is well' "$? $(cat "$place/watch")" '0 '
+    kill -STOP "$pid"
+    service/arrayd-watch "$place/run" > "$place/watch" 2>&1
+    is 'and says that one which stands still does not answer' "$? $(cat "$place/watch")" '3 arrayd-watch: timed out'
+    kill -CONT "$pid"
+    console quit
+    ends
+    kill "$door" 2> /dev/null
+    at=127.0.0.1:$(python3 trials/free_port.py)
+    export ARRAYD_HTTP="$at"
+    begin unit0 unit1
+    console down 1 > "$place/down"
+    service/arrayd-watch "$place/run" > "$place/watch" 2>&1
+    is 'what is degraded is told, and is no failure' "$? $(cut -c 1-9 "$place/watch" | sort -u)" '0 degraded:'
+    truncate -s 512 "$place/disk0"
+    python3 - "$port" << 'END'
+import sys
+sys.path.insert(0, "trials")
+from initiator import Session
+session = Session("127.0.0.1", int(sys.argv[1]) + 4, "iqn.2000-01.test:array")
+session.ready(0)
+session.command(0, [0x28, 0, 0, 0, 0, 100, 0, 0, 1, 0], expected=512)
+END
+    service/arrayd-watch "$place/run" > "$place/watch" 2>&1
+    is 'what is wrong is one, and told' "$? $(grep -c 'unit 0.*call=read' "$place/watch")" '1 1'
+    truncate -s 8M "$place/disk0"
+    console quit
+    ends
+    unset ARRAYD_HTTP
+fi
+unset ARRAYD_CONTROL
+
+# what systemd is told of an array
+prepared() {
+    service/arrayd-prepare --show "$@" 2>&1
+    echo $?
+}
+is 'each disk is allowed by its name, and the hosts that are said' \
+    "$(DISKS='unit0=/dev/vg0/lun0 unit1=/dev/disk/by-id/x unit2' HOSTS='10.0.5.0/24 10.0.7.9' prepared one)" 'User=arrayd-one
+DeviceAllow=
+DeviceAllow=/dev/vg0/lun0 rw
+DeviceAllow=/dev/disk/by-id/x rw
+IPAddressDeny=
+IPAddressDeny=any
+IPAddressAllow=
+IPAddressAllow=localhost 10.0.5.0/24 10.0.7.9/32
+0'
+is 'no disk and no host where none is said' "$(OPTIONS='--host 192.0.2.77' prepared one | grep -v =$)" 'User=arrayd-one
+IPAddressDeny=any
+IPAddressAllow=localhost
+0'
+is 'where its networks are asked for, as the system has them' "$(OPTIONS='--host 0.0.0.0' prepared one | grep -c 'IPAddressAllow=localhost')" 1
+is 'a host that is none is refused' "$(HOSTS='10.0.5.0/24 host7' prepared one)" "arrayd-prepare: HOSTS: 'host7' does not appear to be an IPv4 or IPv6 network
+2"
+is 'and a name of which no user can be made' "$(prepared one.two; prepared abcdefghijklmnopqrstuvwxyz | tail -1)" \
+    'arrayd-prepare: the name one.two: it has letters, digits, - and _ alone, and 24 at most
+2
+2'
+
 if command -v systemd-analyze > /dev/null; then
     # as it is installed, under a root of its own
     DESTDIR="$place/root" service/install.sh "$ARRAYD"
-    for unit in arrayd@.service arrayd-status@.service arrayd-status@.socket; do
+    for unit in arrayd@.service arrayd-prepare@.service arrayd-status@.service arrayd-status@.socket arrayd-watch@.service arrayd-watch@.timer; do
         sed "s#/usr/libexec#$place/root/usr/libexec#" "service/$unit" > "$place/$(echo "$unit" | sed 's/@/@test/')"
     done
     is 'systemd-analyze verify has nothing to say' "$(cd "$place" && systemd-analyze verify --man=no ./arrayd*@test.* 2>&1)" ''
-    for unit in arrayd@test.service arrayd-status@test.service; do
+    for unit in arrayd@test.service arrayd-status@test.service arrayd-watch@test.service; do
         systemd-analyze security --offline=true --threshold=25 "$place/$unit" > "$place/security" 2>&1
         is 'systemd-analyze security calls its exposure at most 2.5' $? 0
         tail -1 "$place/security"
