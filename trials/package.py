@@ -112,12 +112,43 @@ def console(machine):
         return machine.run(f"runuser -u {user} -- {command}")
 
     check("a watcher may ask for status", as_user("watcher", STATUS)[1].count("unit ") == 2, as_user("watcher", STATUS))
+    check("and for sessions and keys", [as_user("watcher", f"{STATUS} {line}")[0] for line in ("sessions", "keys 0")] == [0, 0])
     check("and not by the console", as_user("watcher", f"{CONSOLE} status")[0] == 3 and as_user("watcher", f"{CONSOLE} quit")[0] == 3)
     check("a stranger may neither", as_user("stranger", STATUS)[0] == 3 and as_user("stranger", f"{CONSOLE} status")[0] == 3)
     check("a keeper may take a controller down", as_user("keeper", f"{CONSOLE} down 2") == (0, "down"))
+    check("and ask by the control socket", as_user("keeper", f"{CONSOLE} version")[1].startswith("arrayd "), as_user("keeper", f"{CONSOLE} version"))
+    enters = "cat /run/arrayd/one/late; socat -u OPEN:/dev/null UNIX-CONNECT:/run/arrayd/one/control"
+    check("nobody else enters the folder", all(as_user(user, "sh -c '" + word + "'")[0] != 0 for user in ("watcher", "stranger")
+                                               for word in enters.split("; ")))
     check("which the status tells", as_user("watcher", STATUS)[1].count("states 0 3") == 2, as_user("watcher", STATUS))
     check("a keeper may not read a disk", as_user("keeper", "ls /var/lib/arrayd/one")[0] != 0)
     check("a restart brings it back", machine.run(f"systemctl restart arrayd@one; {CONSOLE} status")[1].count("states 0 1") == 1)
+
+
+def confined(machine):
+    """Its user, its disks, its memory, and what the watch tells of it."""
+    pid = field(machine, "MainPID")
+    check("it runs as a user of its own", machine.run(f"ps -o user:32= -p {pid}")[1] == "arrayd-one", machine.run(f"ps -o user:32= -p {pid}"))
+    check("to whom its files belong", machine.run("stat -c %U /var/lib/arrayd/one /var/lib/arrayd/one/unit0.reg /var/log/arrayd/one/log | sort -u")[1]
+          == "arrayd-one")
+    check("it may open its disks alone", sorted(re.findall("/dev/vd.", field(machine, "DeviceAllow"))) == ["/dev/vdb", "/dev/vdc"], field(machine, "DeviceAllow"))
+    opens = "; ".join(f"head -c 1 /dev/{disk} > /dev/null 2>&1; echo {disk} $?" for disk in ("vdb", "vda", "vdd"))
+    inside = f"echo $$ > /sys/fs/cgroup/system.slice/system-arrayd.slice/arrayd@one.service/cgroup.procs; {opens}"
+    said = machine.run(inside)[1]
+    check("which the system keeps, even from root", said == "vdb 0\nvda 1\nvdd 1", said)
+    check("its memory has a bound", field(machine, "MemoryMax").isdigit(), field(machine, "MemoryMax"))
+    check("the watch has nothing to say", machine.run("systemctl start arrayd-watch@one")[0] == 0, machine.run("journalctl -n 5 --no-pager -u arrayd-watch@one")[1])
+    machine.run(f"kill -STOP {pid}")
+    check("and tells of one that stands still", machine.run("systemctl start arrayd-watch@one")[0] != 0)
+    machine.run(f"kill -CONT {pid}")
+    check("which was not restarted", field(machine, "MainPID") == pid)
+    check("its timer is on", field(machine, "ActiveState", "arrayd-watch@one.timer") == "active")
+    machine.run("systemctl reset-failed arrayd-watch@one; ln -s /dev/vdd /var/lib/arrayd/one/planted; "
+                "sed -i.kept 's#^DISKS=.*#DISKS=\"unit0=/dev/vdb planted\"#' /etc/arrayd/one.conf")
+    check("a link that was planted is refused", machine.run("systemctl restart arrayd@one")[0] != 0
+          and "planted is the block device" in machine.run("journalctl --no-pager -u arrayd-prepare@one")[1])
+    machine.run("mv /etc/arrayd/one.conf.kept /etc/arrayd/one.conf; rm /var/lib/arrayd/one/planted")
+    check("and without it the array is there", machine.run("systemctl restart arrayd@one")[0] == 0)
 
 
 def upgrade(machine):
@@ -154,11 +185,8 @@ def upgrade(machine):
 
 
 def filtered(machine):
-    drop_in = "/etc/systemd/system/arrayd@one.service.d"
-
     def allow(network):
-        machine.run(f"mkdir -p {drop_in}; sed 's#10.0.5.0/24#{network}#' /usr/share/doc/arrayd/examples/hosts.conf > {drop_in}/hosts.conf; "
-                    "systemctl daemon-reload; systemctl restart arrayd@one")
+        machine.run(f"sed -i '/^HOSTS=/d' /etc/arrayd/one.conf; echo 'HOSTS=\"{network}\"' >> /etc/arrayd/one.conf; systemctl restart arrayd@one")
 
     def reaches():
         try:
@@ -167,11 +195,12 @@ def filtered(machine):
         except (OSError, Closed, Refused):
             return False
 
+    check("without a word the networks of its addresses do", "10.0.2.0/24" in field(machine, "IPAddressAllow") and reaches())
     allow("10.0.9.0/24")
-    check("a host that hosts.conf does not name does not reach it", not reaches())
+    check("a host that HOSTS does not name does not reach it", not reaches())
     allow("10.0.2.0/24")
     check("one that it names does", reaches())
-    machine.run(f"rm -r {drop_in}; systemctl daemon-reload; systemctl restart arrayd@one")
+    machine.run("sed -i '/^HOSTS=/d' /etc/arrayd/one.conf; systemctl restart arrayd@one")
 
 
 def missing(machine):
@@ -191,8 +220,8 @@ def missing(machine):
 def file_disk(machine):
     """A disk that is a file, made by the lines of README."""
     folder = "/var/lib/arrayd/three"
-    status, said = machine.run(f"set -e\ninstall -d -m 700 -o arrayd -g arrayd {folder}\ntruncate -s 1G {folder}/unit0\n"
-                               f"chown arrayd: {folder}/unit0\nprintf '%s\\n' 'OPTIONS=\"--host 10.0.2.15 --port 3290 --array 3\"' "
+    status, said = machine.run(f"set -e\ninstall -d -m 700 {folder}\ntruncate -s 1G {folder}/unit0\n"
+                               "printf '%s\\n' 'OPTIONS=\"--host 10.0.2.15 --port 3290 --array 3\"' "
                                "'DISKS=\"unit0\"' > /etc/arrayd/three.conf\nsystemctl start arrayd@three")
     check("an array over a file that was made before starts", status == 0, said)
     status, said = machine.run("/usr/libexec/arrayd/arrayd-console /run/arrayd/three status; arrayd-reg /var/lib/arrayd/three/unit0.reg")
@@ -234,7 +263,7 @@ def removed(machine):
     check("and leaves the device to which a link led", machine.run("dd if=/dev/vdb bs=512 skip=7 count=1 status=none")[1] == "seen" * 128)
 
 
-TRIALS = (three_commands, console, upgrade, filtered, missing, file_disk, rebooted, removed)
+TRIALS = (three_commands, console, confined, upgrade, filtered, missing, file_disk, rebooted, removed)
 
 
 def trials(machine, chosen):

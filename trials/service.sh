@@ -203,7 +203,7 @@ prepared() {
     echo $?
 }
 is 'each disk is allowed by its name, and the hosts that are said' \
-    "$(DISKS='unit0=/dev/vg0/lun0 unit1=/dev/disk/by-id/x unit2' HOSTS='10.0.5.0/24 10.0.7.9' prepared one)" 'User=arrayd-one
+    "$(DISKS='unit0=/dev/vg0/lun0 unit2' DEVICES=/dev/disk/by-id/x HOSTS='10.0.5.0/24 10.0.7.9' prepared one)" 'User=arrayd-one
 DeviceAllow=
 DeviceAllow=/dev/vg0/lun0 rw
 DeviceAllow=/dev/disk/by-id/x rw

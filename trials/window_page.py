@@ -1,6 +1,7 @@
 #!/usr/bin/env python3
 """Looks at the page of the window in Chromium (Debian's package), headless: compares the numbers that it shows with those that were
-sent, looks whether a name of a host became a part of it, walks it with the keyboard, and takes pictures at three widths, light and dark.
+sent, looks whether a name of a host became a part of it, walks it with the keyboard and as a screen reader does, and takes pictures at
+three widths, light and dark: of an array that is well, of one whose controller is down, whose disk failed, hangs and is back, and gone.
 
 usage: trials/window_page.py [--pictures FOLDER [--seconds COUNT]]     two hosts work for so long before the first picture
 
@@ -22,7 +23,7 @@ import tempfile
 import time
 import urllib.request
 
-from cases import is_so
+from cases import Mounted, NotHere, is_so
 from free_port import free_port
 from initiator import GOOD, Session
 from running import PORT, TARGET, Array, Wrong, made
@@ -130,6 +131,12 @@ class Browser:
         self.do("Emulation.setEmulatedMedia", features=[{"name": "prefers-color-scheme", "value": scheme}])
         time.sleep(0.3)
 
+    def points_at(self, selector):
+        """The pointer stands in the middle of this element."""
+        box = self.value(f"(e => {{ e.scrollIntoView(); const b = e.getBoundingClientRect(); return [b.x + b.width / 2, b.y + b.height / 2]; }})"
+                         f"(document.querySelector('{selector}'))")
+        self.do("Input.dispatchMouseEvent", type="mouseMoved", x=box[0], y=box[1])
+
     def key(self, name, code):
         for kind in ("keyDown", "keyUp"):
             self.do("Input.dispatchKeyEvent", type=kind, key=name, code=name, windowsVirtualKeyCode=code,
@@ -153,11 +160,12 @@ def numbers(page, first):
     is_so("conflicts", cells(page, "unit_table", "conflicts"), ["0", "0"])
     is_so("sessions", cells(page, "session_table", "isid"), ["0x400001370000", "0x400001370001"])
     is_so("name", cells(page, "session_table", "initiator"), [NAME, "iqn.2000-01.test:other"])
-    is_so("well", page.value("document.getElementById('well').textContent"), "\u2714 well")
+    page.until("document.getElementById('well').textContent === '\u2714 well'")
     before = page.value("past.length")
     for _ in range(5):
         first.read(0, 0, 8)
-    page.until(f"past.length > {before} && past.some(point => point.one > 0)")
+    page.until("document.querySelector('#unit_table td[data-key=commands]').textContent === '18'")
+    is_so("what went on", page.value(f"past.length > {before} && past.some(point => point.one > 0)"), True)
     is_so("commands then", cells(page, "unit_table", "commands"), ["18", "3"])
 
 
@@ -178,20 +186,80 @@ def registrations(page, first, second):
 
 def is_unharmed(page):
     """No name of a host is a part of the page."""
-    is_so("title", page.value("document.title"), "\u2714 well - arrayd")
+    page.until("document.title === '\u2714 well - arrayd'")
     is_so("scripts", page.value("document.scripts.length"), 1)
+
+
+CHARTS = ["Commands", "Bytes", "Latency", "Unit 0: bytes", "Unit 0: mean time", "Unit 1: bytes", "Unit 1: mean time"]
+TABLES = ["Units", "Calls that failed", "Sessions", "Registrations", "Controllers"]
+
+
+def rates(page):
+    """Of each path what it does now, what it did in all, and what was not GOOD apart."""
+    shown = "[...document.querySelectorAll('#units [data-unit=\"0\"] .pair tbody tr')].map(row => row.innerText.split(/[\\n\\t]+/).filter(Boolean))"
+    rows = {row[0]: row[1:] for row in page.value(shown)}
+    is_so("rows", list(rows), ["state", "commands", "not GOOD", "read", "written"])
+    is_so("states", rows["state"], ["active/optimized", "active/non-optimized"])
+    is_so("in all", (rows["read"][1::2], rows["written"][1::2], rows["not GOOD"][1::2]), (["48 KiB", "0 B"], ["12 KiB", "0 B"], ["1", "1"]))
+    is_so("a second", all(text.endswith("/s") for name in ("commands", "read", "written") for text in rows[name][::2]), True)
+
+
+def past_of_before(page):
+    """Charts begin with what the array kept before the page was opened, and have a gap where it began anew."""
+    grows = [{"at": 1000 + 10 * at, "units": [{"reads": 10 * at, "writes": 0, "read_bytes": 40960 * at, "written_bytes": 0,
+                                               "read_micros": 1500 * at, "write_micros": 0}] * 2} for at in range(3)]
+    anew = [{"at": 1030 + 10 * at, "units": [{name: 0 for name in grows[0]["units"][0]}] * 2} for at in range(2)]
+    told = page.value(f"""(async () => {{ const [real, was] = [window.fetch, kept];
+        window.fetch = async () => ({{ ok: true, json: async () => ({{ step_seconds: 10, points: {json.dumps(grows + anew)} }}) }});
+        const is = await recall(), all = [is, stepsOf(u => [u.read_bytes, u.written_bytes], 1), stepsOf(u => [u.reads]), means(0)];
+        window.fetch = real; kept = was; return all; }})()""")
+    is_so("asked", told[0], True)
+    is_so("bytes of a unit", [step["values"] for step in told[1]], [[4096, 0], [4096, 0], [None, None], [0, 0]])
+    is_so("READs of all", [(step["at"], step["values"]) for step in told[2]], [(1010, [2]), (1020, [2]), (1030, [None]), (1040, [0])])
+    is_so("mean times", [step["values"] for step in told[3]], [[150, None], [150, None], [None, None], [None, None]])
+
+
+def times_in_words(page):
+    """A time of which the buckets alone are known."""
+    is_so("words", page.value("[bounds[0], 1000, bounds.at(-1), 2 * bounds.at(-1)].map(within)"), ["\u2264 10 \u00b5s", "\u2264 1 ms", "\u2264 10 s", "> 10 s"])
+    axis = page.value("(a => a.marks.map(m => m[1]))(decades(3000))")
+    is_so("axis of times", axis, ["10 \u00b5s", "100 \u00b5s", "1 ms", "10 ms"])
+    is_so("axes", page.value("[[1, 1000], [700, 1000], [1023, 1024], [1500000, 1024]].map(([n, s]) => linear(rate, s)(n).part(n))"),
+          [1, 0.7, 1023 / 1024, 1500000 / (2 << 20)])
+
+
+def tells_values(page):
+    """A chart tells its values where the pointer stands, and by the arrows."""
+    read = lambda: page.value("charts.bytes.reading.textContent")
+    is_so("nothing yet", read(), "")
+    page.points_at("#charts .card:nth-child(2) svg")
+    page.until("/^[0-9:]{8} UTC: read .*, written /.test(charts.bytes.reading.textContent)")
+    page.points_at("h1")
+    is_so("and nothing then", read(), "")
+    page.value("charts.bytes.svg.focus()")
+    page.key("ArrowLeft", 37)
+    last = read()
+    page.key("ArrowLeft", 37)
+    is_so("one before", (last != read(), " UTC: read " in read()), (True, True))
+    page.key("Escape", 27)
+    is_so("let go", read(), "")
+    before = page.value("heard")
+    page.until(f"heard > {before}")
+    is_so("focus stays", page.value("document.activeElement === charts.bytes.svg"), True)
 
 
 def is_reached_by_keys(page):
     page.value("document.activeElement.blur()")
     reached = []
-    for _ in range(6):
+    for _ in range(1 + len(CHARTS) + len(TABLES)):
         page.key("Tab", 9)
-        reached.append(page.value("document.activeElement.id || document.activeElement.getAttribute('aria-label')"))
-    is_so("by Tab", reached, ["pause", "Units", "Calls that failed", "Sessions", "Registrations", "Controllers"])
+        reached.append(page.value("(document.activeElement.id || document.activeElement.getAttribute('aria-label') || 'none').split(',')[0]"))
+    is_so("by Tab", reached, ["pause", *CHARTS, *TABLES])
     nodes = page.do("Accessibility.getFullAXTree")["nodes"]
-    named = {node["name"]["value"] for node in nodes if node.get("role", {}).get("value") == "region" and "name" in node}
-    is_so("regions", {"Units", "Sessions", "Registrations", "Controllers", "Calls that failed"} <= named, True)
+    of = lambda role: {node["name"]["value"] for node in nodes if node.get("role", {}).get("value") == role and "name" in node}
+    is_so("regions", set(TABLES) <= of("region"), True)
+    is_so("charts have a text", {name.split(",")[0] for name in of("image") | of("img")} >= set(CHARTS), True)
+    is_so("heads of columns and rows", (of("columnheader") >= {"unit", "controller 1"}, of("rowheader") >= {"state", "not GOOD"}), (True, True))
     page.value("document.getElementById('pause').focus()")
     page.key("Enter", 13)
     is_so("pressed", page.value("document.getElementById('pause').getAttribute('aria-pressed')"), "true")
@@ -221,7 +289,7 @@ def stands_still(page, array):
 
 
 def fits(page):
-    for width in (400, 1000, 2000):
+    for width in (320, 400, 1000, 2000):
         page.look(width, False)
         is_so(f"fits {width}", page.value("document.documentElement.scrollWidth <= innerWidth"), True)
 
@@ -265,7 +333,11 @@ def tried(folder, to, seconds):
             numbers(page, first)
             registrations(page, first, second)
             is_unharmed(page)
+            rates(page)
+            times_in_words(page)
+            past_of_before(page)
             is_reached_by_keys(page)
+            tells_values(page)
             stays_selected(page)
             stands_still(page, array)
             fits(page)
@@ -291,8 +363,31 @@ def tried(folder, to, seconds):
             pictures(page, to, "over")
             array.kill()
             page.until("document.getElementById('well').textContent.includes('does not answer')")
+            pictures(page, to, "gone")
         finally:
             page.end()
+
+
+def hung(folder, to):
+    """A disk that hangs, and one that is back."""
+    with Mounted(folder) as place, Array(place.that_hangs(), more={"ARRAYD_HTTP": f"127.0.0.1:{AT}", "ARRAYD_DEADLINE": "3"}) as array:
+        host = Session("127.0.0.1", PORT, TARGET, timeout=60)
+        host.ready(0)
+        page = Browser(folder)
+        try:
+            page.do("Page.navigate", url=f"http://127.0.0.1:{AT}/")
+            page.until("document.title === '\u2714 well - arrayd'")
+            with place.frozen():
+                host.submit(0, [0x2A, 0, 0, 0, 0, 0, 0, 0, 1, 0], out=bytes(512))
+                page.until("document.title === '\u2718 1 wrong - arrayd'")
+                is_so("which", page.value("document.querySelector('#problems li').textContent.includes('unit 0')"), True)
+                pictures(page, to, "hung")
+            page.until("document.title === '\u2714 well - arrayd'")
+            is_so("what was", cells(page, "failure_table", "call")[:1], ["hung"])
+            pictures(page, to, "back")
+        finally:
+            page.end()
+        array.quit()
 
 
 def main():
@@ -303,13 +398,17 @@ def main():
     if not shutil.which("chromium"):
         print("left  page: no chromium")
         return
-    with tempfile.TemporaryDirectory(ignore_cleanup_errors=True) as folder:
-        try:
-            tried(folder, wanted.pictures, wanted.seconds)
-        except Wrong as why:
-            print(f"WRONG page: {why}")
-            sys.exit(1)
-    print("ok    page")
+    for name, trial in (("page", lambda folder: tried(folder, wanted.pictures, wanted.seconds)), ("hung", lambda folder: hung(folder, wanted.pictures))):
+        with tempfile.TemporaryDirectory(ignore_cleanup_errors=True) as folder:
+            try:
+                trial(folder)
+            except NotHere as lack:
+                print(f"left  {name}: {lack}")
+                continue
+            except Wrong as why:
+                print(f"WRONG {name}: {why}")
+                sys.exit(1)
+        print(f"ok    {name}")
 
 
 if __name__ == "__main__":

@@ -28,22 +28,29 @@ header { display: flex; flex-wrap: wrap; gap: 4px 18px; align-items: baseline; }
 .one { color: var(--one); } .two { color: var(--two); } .owns { border-width: 4px; border-color: currentColor; }
 .wire { border-top: 3px dashed var(--soft); } .wire.best { border-top: 5px solid currentColor; }
 .wire.none { border-top: 3px dotted var(--bad); }
-.pair { display: grid; grid-template-columns: 1fr 1fr; gap: 2px 10px; font-size: .88rem; margin-top: 6px; }
-.right { text-align: right; } .facts { font-size: .88rem; margin-top: 6px; border-top: 1px solid var(--line); padding-top: 6px; }
+.pair { margin-top: 6px; table-layout: fixed; width: 100%; min-width: 0; } .pair th, .pair td { white-space: normal; }
+.pair td, .pair thead th { text-align: right; } .pair thead td { width: 24%; }
+.facts { font-size: .88rem; margin-top: 6px; border-top: 1px solid var(--line); padding-top: 6px; }
 #problems li.amber { border-color: var(--two); } .stale main { opacity: .45; } .warn { color: var(--two); font-weight: 700; }
-.ends { display: flex; justify-content: space-between; font-size: .8rem; }
+.ends { display: flex; justify-content: space-between; } .ends, .reading, .marks, .keys { font-size: .8rem; }
+.chart h4 { font-size: .85rem; margin: 8px 0 6px; } .reading { min-height: 1.45em; }
+.plot { display: grid; grid-template-columns: 76px 1fr; } .marks { position: relative; }
+.marks span { position: absolute; right: 6px; transform: translateY(50%); white-space: nowrap; line-height: 1; }
+.chart .ends, .reading, .keys { margin: 4px 0 0 76px; }
 .wide { overflow-x: auto; } .wide:focus-visible { outline: 3px solid var(--one); }
 table { border-collapse: collapse; min-width: 100%; font-size: .88rem; }
 th, td { border-bottom: 1px solid var(--line); padding: 3px 6px; text-align: left; vertical-align: top; white-space: nowrap; }
 th { color: var(--soft); font-weight: 600; } tbody tr:hover { background: var(--card); }
-td.n, th.n { text-align: right; font-variant-numeric: tabular-nums; }
+td.n, th.n, [data-key=read], [data-key=written] { text-align: right; font-variant-numeric: tabular-nums; }
 td[data-key=initiator] { white-space: normal; min-width: 14rem; overflow-wrap: anywhere; }
-svg { width: 100%; height: 110px; display: block; border: solid var(--line); border-width: 1px 0; }
+svg { width: 100%; height: 110px; display: block; } .small svg { height: 72px; } svg:focus-visible { outline: 3px solid var(--one); }
 svg path { fill: none; stroke-width: 2; stroke-linecap: round; vector-effect: non-scaling-stroke; }
-svg .mesh { stroke: var(--line); stroke-width: 1; } .line0 { stroke: var(--one); } .line1 { stroke: var(--two); stroke-dasharray: 6 3; }
+svg .mesh { stroke: var(--line); stroke-width: 1; } svg .cursor { stroke: var(--ink); stroke-width: 1; } .line0 { stroke: var(--one); }
+.line1 { stroke: var(--two); stroke-dasharray: 6 3; } .line2 { stroke: var(--bad); stroke-dasharray: 2 4; }
 .key { display: inline-block; white-space: nowrap; margin-right: 12px; }
 .key::before { content: ''; display: inline-block; width: 22px; margin-right: 5px; vertical-align: middle;
   border-top: 3px solid var(--one); } .key.line1::before { border-top: 3px dashed var(--two); }
+.key.line2::before { border-top: 3px dotted var(--bad); }
 button { font: inherit; padding: 2px 12px; color: inherit; background: var(--card); border: 1px solid var(--soft); border-radius: 6px; }
 button:focus-visible { outline: 3px solid var(--one); }
 </style></head><body>
@@ -67,11 +74,12 @@ button:focus-visible { outline: 3px solid var(--one); }
 </main>
 <script>
 'use strict';
-const EVERY = 2000, PATIENCE = 5000, KEPT = 300, SVG = 'http://www.w3.org/2000/svg';
+const EVERY = 2000, PATIENCE = 5000, KEPT = 600, STEP = 10, SVG = 'http://www.w3.org/2000/svg';
 const TYPES = { 0: 'none', 1: 'write exclusive', 3: 'exclusive access', 5: 'write exclusive, registrants only',
   6: 'exclusive access, registrants only', 7: 'write exclusive, all registrants', 8: 'exclusive access, all registrants' };
+// What was seen of all, by this page and before it; what the array keeps of each unit, or this page where the array keeps nothing.
 const past = [];
-let before = null, paused = false, heard = null;
+let kept = [], before = null, paused = false, heard = null;
 const find = id => document.getElementById(id);
 // An element with a class, and within it texts, which are never read as HTML, and elements.
 function make(name, kind, ...within) {
@@ -88,15 +96,16 @@ function drawn(name, words, text) {
 }
 const fill = (id, ...within) => find(id).replaceChildren(...within);
 const sum = numbers => numbers.reduce((all, n) => all + n, 0);
+const few = n => n >= 100 || Number.isInteger(n) ? n.toFixed(0) : n.toFixed(1);
 function short(n, step, names) {
   let place = 0;
   while (n >= step && place + 1 < names.length) { n /= step; place += 1; }
-  return (n >= 100 || Number.isInteger(n) ? n.toFixed(0) : n.toFixed(1)) + ' ' + names[place];
+  return few(n) + ' ' + names[place];
 }
 const rate = n => short(n, 1000, ['/s', 'k/s', 'M/s']);
 const bytes = n => short(n, 1024, ['B', 'KiB', 'MiB', 'GiB', 'TiB']);
-const time = micros => micros < 1000 ? micros.toFixed(0) + ' us' : micros < 1e6 ? (micros / 1000).toFixed(1) + ' ms'
-  : (micros / 1e6).toFixed(1) + ' s';
+const byteRate = n => bytes(n) + '/s';
+const time = micros => short(micros, 1000, ['µs', 'ms', 's']);
 function span(seconds) {
   const days = Math.floor(seconds / 86400), rest = new Date(seconds % 86400 * 1000).toISOString().slice(11, 19);
   return (days ? days + ' d ' : '') + rest;
@@ -104,13 +113,13 @@ function span(seconds) {
 const moment = seconds => new Date(seconds * 1000).toISOString().slice(0, 19).replace('T', ' ');
 const ago = seconds => seconds < 1 ? 'now' : seconds < 100 ? seconds.toFixed(0) + ' s ago' : span(seconds) + ' ago';
 const routes = view => view.units.flatMap(unit => unit.paths);
+const countOf = commands => sum(commands.buckets);
 function totals(view) {
   const all = routes(view).map(route => route.commands), buckets = view.bounds_micros.map(() => 0).concat([0]);
   for (const commands of all) commands.buckets.forEach((n, place) => { buckets[place] += n; });
-  const by = number => sum(routes(view).filter(route => route.controller === number)
-    .flatMap(route => route.commands.buckets));
-  return { at: view.uptime_micros, buckets, one: by(1), two: by(2), read: sum(all.map(c => c.read_bytes)),
-    written: sum(all.map(c => c.written_bytes)) };
+  const by = number => sum(routes(view).filter(route => route.controller === number).map(route => countOf(route.commands)));
+  return { at: view.since + view.uptime_micros / 1e6, buckets, one: by(1), two: by(2), refused: sum(all.map(c => countOf(c) - c.good)),
+    read: sum(all.map(c => c.read_bytes)), written: sum(all.map(c => c.written_bytes)), units: view.units.map(unit => unit.paths) };
 }
 // The bound of the bucket in which the slowest of this part of the commands lies; behind the last one there is none.
 function bound(buckets, bounds, part) {
@@ -126,33 +135,132 @@ function bound(buckets, bounds, part) {
 function remember(view) {
   const now = totals(view), old = before;
   before = now;
-  if (!old || now.at <= old.at) return;
-  const seconds = (now.at - old.at) / 1e6, per = name => Math.max(0, now[name] - old[name]) / seconds;
+  if (!old || now.at <= old.at) return old;
+  const seconds = now.at - old.at, per = name => Math.max(0, now[name] - old[name]) / seconds;
   const buckets = now.buckets.map((n, place) => Math.max(0, n - old.buckets[place]));
-  past.push({ one: per('one'), two: per('two'), read: per('read'), written: per('written'),
+  past.push({ at: now.at, one: per('one'), two: per('two'), refused: per('refused'), read: per('read'), written: per('written'),
     middle: bound(buckets, view.bounds_micros, 0.5), slow: bound(buckets, view.bounds_micros, 0.99) });
-  if (past.length > KEPT) past.shift();
+  while (past[0].at < now.at - KEPT) past.shift();
+  return old;
 }
-// A line through what was measured, with a gap where nothing was.
-function line(values, height) {
-  let words = '', last = null;
-  values.forEach((n, at) => {
-    const x = 600 - 2 * (values.length - 1 - at);
-    if (n !== null) words += (last === null ? 'M' : 'L') + x + ' ' + height(n).toFixed(1) + (last === null ? 'h.1' : '');
-    last = n;
+// The ten minutes that the array keeps: of each unit its counts at each step.
+async function recall() {
+  const answer = await ask('/recent');
+  if (answer === null) return false;
+  kept = answer.points;
+  const first = past.length ? past[0].at : Infinity;
+  past.unshift(...stepsOf(u => [u.read_bytes, u.written_bytes]).filter(step => step.at < first && step.values[0] !== null)
+    .map(step => ({ at: step.at, one: null, two: null, refused: null, read: step.values[0], written: step.values[1], middle: null,
+      slow: null })));
+  return true;
+}
+// The same from what the page sees, where the array keeps nothing. How long reads and writes took is not in it.
+function keep(view) {
+  const now = view.since + view.uptime_micros / 1e6, last = kept.at(-1);
+  if (last && now - last.at < STEP && now >= last.at) return;
+  const of = (unit, names) => sum(unit.paths.flatMap(route => route.commands.operations).filter(one => names.includes(one.what))
+    .map(one => one.count));
+  const bytesOf = (unit, name) => sum(unit.paths.map(route => route.commands[name]));
+  kept.push({ at: now, units: view.units.map(unit => ({ reads: of(unit, ['read']), writes: of(unit, ['write', 'compare_and_write']),
+    read_bytes: bytesOf(unit, 'read_bytes'), written_bytes: bytesOf(unit, 'written_bytes') })) });
+  kept = kept.filter(point => point.at >= now - KEPT);
+}
+// What grew between two steps, a second, of these counts of a unit or of all of them. None where the array began anew between.
+function stepsOf(counts, unit = null) {
+  const totalOf = point => (unit === null ? point.units : point.units.slice(unit, unit + 1)).map(counts)
+    .reduce((all, one) => all.map((n, place) => n + one[place]));
+  const has = point => point.units.length > (unit ?? 0);
+  return kept.slice(1).map((point, place) => {
+    const old = kept[place], seconds = point.at - old.at;
+    const grown = seconds > 0 && has(point) && has(old) ? totalOf(point).map((n, at) => (n - totalOf(old)[at]) / seconds) : [];
+    return { at: point.at, values: counts(blank).map((_, at) => grown[at] >= 0 && grown.every(n => n >= 0) ? grown[at] : null) };
   });
-  return words;
 }
-function chart(title, names, keys, words, isLog, top = words) {
-  const values = keys.map(key => past.map(point => point[key])), most = Math.max(1, ...values.flat().filter(Number.isFinite));
-  const height = n => { const part = isLog ? Math.log(1 + n) / Math.log(1 + most) : n / most; return 116 - 110 * part; };
-  const svg = drawn('svg', { viewBox: '0 0 600 120', preserveAspectRatio: 'none', role: 'img', 'aria-label': title });
-  for (let minute = 1; minute < 10; minute += 1) svg.append(drawn('path', { class: 'mesh', d: 'M' + 60 * minute + ' 0v120' }));
-  values.forEach((numbers, place) => svg.append(drawn('path', { class: 'line' + place, d: line(numbers, height) })));
-  const last = place => { const n = values[place].at(-1); return n === undefined || n === null ? 'none' : words(n); };
-  const keysShown = names.map((name, place) => make('span', 'key line' + place, name + ' ', make('b', '', last(place))));
-  return make('div', 'card', make('h3', '', title, make('span', 'soft', ' up to ' + top(most))), svg,
-    make('div', 'soft ends', make('span', '', 'ten minutes ago'), make('span', '', 'now')), make('div', '', ...keysShown));
+const blank = { reads: 0, writes: 0, read_bytes: 0, written_bytes: 0, read_micros: 0, write_micros: 0 };
+// How long reads and writes took in the mean, where there were any.
+const means = unit => stepsOf(u => [u.reads, u.writes, u.read_micros, u.write_micros], unit).map(({ at, values: [r, w, of, by] }) => (
+  { at, values: [r && Number.isFinite(of) ? of / r : null, w && Number.isFinite(by) ? by / w : null] }));
+// An axis from 0 to the next round number; one of decades of microseconds.
+function linear(words, step) {
+  return most => {
+    let unit = 1;
+    while (most > 500 * unit) unit *= step;
+    const top = unit * ([1, 2, 5, 10, 20, 50, 100, 200, 500].find(n => n * unit >= most) ?? step);
+    return { part: n => n / top, marks: [0, 0.5, 1].map(part => [part, words(part * top)]) };
+  };
+}
+function decades(most) {
+  const last = Math.max(3, Math.ceil(Math.log10(most) - 1e-9)), marks = [];
+  for (let at = 1; at <= last; at += 1) marks.push([(at - 1) / (last - 1), time(10 ** at)]);
+  return { part: n => (Math.log10(Math.max(n, 10)) - 1) / (last - 1), marks };
+}
+// A chart of ten minutes, a line for each name. Pointer or arrows move a cursor, at which it tells the values.
+class Chart {
+  constructor(title, names, words, axis, kind = 'card chart', level = 'h3') {
+    Object.assign(this, { title, names, words, axis, steps: [], now: 0, cursor: null });
+    this.svg = drawn('svg', { viewBox: '0 0 600 120', preserveAspectRatio: 'none', role: 'img', tabindex: 0 });
+    this.marks = make('div', 'marks soft');
+    this.marks.ariaHidden = 'true';
+    this.reading = make('div', 'reading soft');
+    this.reading.setAttribute('aria-live', 'polite');
+    this.keys = make('div', 'keys');
+    this.node = make('div', kind, make(level, '', title), make('div', 'plot', this.marks, this.svg),
+      make('div', 'soft ends', ...['10 min ago', '5 min ago', 'now'].map(text => make('span', '', text))), this.reading, this.keys);
+    this.svg.addEventListener('pointermove', event => { const box = this.svg.getBoundingClientRect();
+      this.point(KEPT * (event.clientX - box.left) / box.width - KEPT); });
+    for (const end of ['pointerleave', 'blur']) this.svg.addEventListener(end, () => this.point(null));
+    this.svg.addEventListener('keydown', event => this.press(event));
+  }
+  near() {
+    const far = step => Math.abs(step.at - this.now - this.cursor);
+    return this.cursor === null || !this.steps.length ? null : this.steps.reduce((best, step) => far(step) < far(best) ? step : best);
+  }
+  press(event) {
+    const by = { ArrowLeft: -1, ArrowRight: 1 }[event.key], at = this.steps.indexOf(this.near() ?? this.steps.at(-1));
+    if (event.key === 'Escape') this.point(null);
+    if (!by || at < 0) return;
+    event.preventDefault();
+    this.point(this.steps[Math.min(this.steps.length - 1, Math.max(0, this.cursor === null ? at : at + by))].at - this.now);
+  }
+  point(cursor) {
+    this.cursor = cursor;
+    this.read();
+  }
+  told(step) {
+    return this.names.map((name, place) => name + ' ' + (step.values[place] === null ? 'none' : this.words(step.values[place]))).join(', ');
+  }
+  read() {
+    const step = this.near();
+    this.svg.querySelector('.cursor')?.remove();
+    if (step) this.svg.append(drawn('path', { class: 'cursor', d: 'M' + (KEPT + step.at - this.now) + ' 0v120' }));
+    this.reading.textContent = step ? moment(step.at).slice(11) + ' UTC: ' + this.told(step) : '';
+  }
+  show(now, steps) {
+    Object.assign(this, { now, steps: steps.filter(step => step.at > now - KEPT) });
+    const values = this.names.map((_, place) => this.steps.map(step => step.values[place]));
+    const axis = this.axis(Math.max(1, ...values.flat().filter(Number.isFinite))), height = n => 118 - 116 * Math.min(1, axis.part(n));
+    this.svg.replaceChildren();
+    for (const [part] of axis.marks) this.svg.append(drawn('path', { class: 'mesh', d: 'M0 ' + (118 - 116 * part) + 'h600' }));
+    values.forEach((numbers, place) => this.svg.append(drawn('path', { class: 'line' + place, d: this.line(numbers, height) })));
+    this.marks.replaceChildren(...axis.marks.map(([part, text]) => { const made = make('span', '', text);
+      made.style.bottom = 100 * (2 + 116 * part) / 120 + '%'; return made; }));
+    const last = place => { const n = values[place].at(-1); return n === undefined || n === null ? 'none' : this.words(n); };
+    const most = place => { const all = values[place].filter(Number.isFinite); return all.length ? this.words(Math.max(...all)) : 'none'; };
+    this.svg.setAttribute('aria-label', this.title + ', the last ten minutes: '
+      + this.names.map((name, place) => name + ' ' + last(place) + ' now, ' + most(place) + ' at most').join('; '));
+    this.keys.replaceChildren(...this.names.map((name, place) => make('span', 'key line' + place, name + ' ', make('b', '', last(place)))));
+    this.read();
+  }
+  // A line through what was measured, with a gap where nothing was.
+  line(values, height) {
+    let words = '', last = null;
+    values.forEach((n, place) => {
+      const x = (KEPT + this.steps[place].at - this.now).toFixed(1);
+      if (n !== null) words += (last === null ? 'M' : 'L') + x + ' ' + height(n).toFixed(1) + (last === null ? 'h.1' : '');
+      last = n;
+    });
+    return words;
+  }
 }
 function wire(route) {
   const kind = route.state === 0 ? ' best' : route.state === 1 ? '' : ' none';
@@ -169,33 +277,66 @@ function healthOf(unit) {
   return signed(is.every(what => what === 'slow' || what === 'length_changed') ? 'warn' : 'bad', unit.health);
 }
 // A time of which the buckets alone are known.
-const within = bounds => micros => micros > bounds.at(-1) ? 'above ' + time(bounds.at(-1)) : 'at most ' + time(micros);
-function card(unit) {
-  const [first, second] = unit.paths;
+let bounds = [];
+const within = micros => micros > bounds.at(-1) ? '> ' + time(bounds.at(-1)) : '≤ ' + time(micros);
+const charts = { commands: new Chart('Commands', ['controller 1', 'controller 2', 'not GOOD'], rate, linear(rate, 1000)),
+  bytes: new Chart('Bytes', ['read', 'written'], byteRate, linear(byteRate, 1024)),
+  times: new Chart('Latency', ['median', '99 %'], within, decades) };
+const cards = new Map();
+// The parts of a unit's card; its charts stay, so that neither cursor nor focus is lost.
+function cardOf(unit) {
+  if (!cards.has(unit.unit)) {
+    const part = kind => make('div', kind), of = 'Unit ' + unit.unit + ': ';
+    const parts = { head: part(''), draw: part('draw'), facts: part('facts'), pair: make('table', 'pair'),
+      bytes: new Chart(of + 'bytes', ['read', 'written'], byteRate, linear(byteRate, 1024), 'chart small', 'h4'),
+      times: new Chart(of + 'mean time', ['READ', 'WRITE'], time, decades, 'chart small', 'h4') };
+    parts.node = make('div', 'card', parts.head, parts.draw, parts.pair, parts.bytes.node, parts.times.node, parts.facts);
+    parts.node.dataset.unit = unit.unit;
+    cards.set(unit.unit, parts);
+  }
+  return cards.get(unit.unit);
+}
+// What is counted of a unit's paths, with what it grew by, a second.
+function pairOf(unit, old, seconds) {
+  const head = (text, scope) => { const made = make('th', '', text); made.scope = scope; return made; };
+  const row = (title, words, of) => make('tr', '', head(title, 'row'), ...unit.paths.map((route, place) => {
+    const now = of(route.commands), was = old?.[place] ? of(old[place].commands) : now;
+    const grown = seconds > 0 ? make('b', '', words(Math.max(0, now - was) / seconds)) : '';
+    return make('td', '', grown, make('div', 'soft', words === rate ? now : bytes(now)));
+  }));
+  return [make('thead', '', make('tr', '', make('td', '', ''), ...unit.paths.map(route => head('controller ' + route.controller, 'col')))),
+    make('tbody', '', make('tr', '', head('state', 'row'), ...unit.paths.map(route => make('td', '', stateOf(route)))),
+      row('commands', rate, countOf), row('not GOOD', rate, c => countOf(c) - c.good), row('read', byteRate, c => c.read_bytes),
+      row('written', byteRate, c => c.written_bytes))];
+}
+function card(unit, old, now) {
+  const parts = cardOf(unit), [first, second] = unit.paths;
   const box = (number, name) => make('div', 'box ' + name + (unit.owner === number ? ' owns' : ''), 'controller ' + number,
     make('div', 'soft', unit.owner === number ? 'owner' : ' '));
-  const told = route => [stateOf(route), sum(route.commands.buckets) + ' commands',
-    bytes(route.commands.read_bytes) + ' read', bytes(route.commands.written_bytes) + ' written'];
-  const [left, right] = [told(first), told(second)];
-  const rows = left.flatMap((text, place) => [make('div', '', text), make('div', 'right', right[place])]);
+  parts.head.replaceChildren(make('h3', '', 'Unit ' + unit.unit + ' ', make('span', 'mono soft', unit.disk)),
+    make('div', 'mono soft', 'WWID ' + unit.wwid + ', serial number ' + unit.serial));
+  parts.draw.replaceChildren(box(1, 'one'), wire(first), make('div', 'box', 'unit ' + unit.unit), wire(second), box(2, 'two'));
+  parts.pair.replaceChildren(...pairOf(unit, old?.units[unit.unit], old ? now - old.at : 0));
+  parts.bytes.show(now, stepsOf(u => [u.read_bytes, u.written_bytes], unit.unit));
+  parts.times.show(now, means(unit.unit));
   const kind = unit.reservation_type;
-  const facts = make('div', 'facts', make('div', '', 'Disk: ', healthOf(unit), ', ' + bytes(512 * unit.blocks)),
+  parts.facts.replaceChildren(make('div', '', 'Disk: ', healthOf(unit), ', ' + bytes(512 * unit.blocks)),
     make('div', '', kind ? 'Reserved: ' + (TYPES[kind] ?? kind) : 'Not reserved', ', ' + unit.registrants + ' registered, generation '
       + unit.generation),
     make('div', 'soft', unit.entries + ' entries in its history' + (unit.oldest_command_micros > 1e5 ? ', a command waits for '
       + time(unit.oldest_command_micros) : '')));
-  const made = make('div', 'card', make('h3', '', 'Unit ' + unit.unit + ' ', make('span', 'mono soft', unit.disk)),
-    make('div', 'mono soft', 'WWID ' + unit.wwid + ', serial number ' + unit.serial),
-    make('div', 'draw', box(1, 'one'), wire(first), make('div', 'box', 'unit ' + unit.unit), wire(second), box(2, 'two')),
-    make('div', 'pair', ...rows), facts);
-  made.dataset.unit = unit.unit;
-  return made;
+  return parts.node;
+}
+// The same elements stay where they are.
+function settle(id, nodes) {
+  const place = find(id);
+  if (nodes.length !== place.children.length || nodes.some((node, at) => node !== place.children[at])) place.replaceChildren(...nodes);
 }
 function table(id, heads, rows) {
   const cell = (name, value, key) => { const made = make(name, typeof value === 'number' ? 'n' : '', value);
     if (key) made.dataset.key = key; return made; };
   const isNumber = key => rows.length > 0 && typeof rows[0][key] === 'number';
-  const titled = (title, key) => { const made = make('th', isNumber(key) ? 'n' : '', title); made.scope = 'col'; return made; };
+  const titled = (title, key) => { const made = cell('th', title, key); made.scope = 'col'; if (isNumber(key)) made.className = 'n'; return made; };
   const head = make('tr', '', ...heads.map(([title, key]) => titled(title, key)));
   const body = rows.map(row => make('tr', '', ...heads.map(([, key]) => cell('td', row[key] ?? '', key))));
   fill(id, make('thead', '', head), make('tbody', '', ...body));
@@ -230,7 +371,8 @@ function tell(kind, words) {
 }
 const isSelected = () => { const now = getSelection(); return now !== null && !now.isCollapsed; };
 function show(view) {
-  remember(view);
+  const old = remember(view);
+  bounds = view.bounds_micros;
   heard = Date.now();
   document.body.classList.remove('stale');
   fill('target', view.target);
@@ -241,10 +383,12 @@ function show(view) {
   if (isSelected()) return;
   fill('problems', ...view.problems.map(text => make('li', '', signed('bad', text))),
     ...view.degraded.map(text => make('li', 'amber', signed('warn', text))));
-  fill('charts', chart('Commands', ['controller 1', 'controller 2'], ['one', 'two'], rate),
-    chart('Bytes', ['read', 'written'], ['read', 'written'], n => bytes(n) + '/s'),
-    chart('Latency', ['median', '99 %'], ['middle', 'slow'], within(view.bounds_micros), true, time));
-  fill('units', ...view.units.map(card));
+  const now = before.at, steps = names => past.map(point => ({ at: point.at, values: names.map(name => point[name]) }));
+  charts.commands.show(now, steps(['one', 'two', 'refused']));
+  charts.bytes.show(now, steps(['read', 'written']));
+  charts.times.show(now, steps(['middle', 'slow']));
+  settle('charts', Object.values(charts).map(chart => chart.node));
+  settle('units', view.units.map(unit => card(unit, old, now)));
   table('unit_table', [['unit', 'unit'], ['owner', 'owner'], ['commands', 'commands'], ['read', 'read'],
     ['written', 'written'], ['flushes', 'flushes'], ['checks', 'checks'], ['refused', 'refused'], ['miscompares', 'miscompares'],
     ['conflicts', 'conflicts'], ['BUSY', 'busy'], ['failed', 'failed']], view.units.map(unitRow));
@@ -266,17 +410,29 @@ function show(view) {
     at: one.portals.join(' '),
     logins: place ? '' : view.logins, refused: place ? '' : sum(view.refused_logins.map(tally => tally.count)) })));
 }
+let asked = -Infinity, isKept = true;
+async function ask(path) {
+  const answer = await fetch(path, { cache: 'no-store', signal: AbortSignal.timeout(PATIENCE) });
+  return answer.ok ? answer.json() : null;
+}
 async function look() {
-  if (!paused) {
-    try {
-      const answer = await fetch('/status', { cache: 'no-store', signal: AbortSignal.timeout(PATIENCE) });
-      show(await answer.json());
-    } catch (_) {
+  try {
+    if (paused) return;
+    if (isKept && Date.now() - asked >= 1000 * STEP) {
+      asked = Date.now();
+      isKept = await recall().catch(() => true);
+    }
+    const view = await ask('/status').catch(() => null);
+    if (view === null) {
       tell('bad', 'the array does not answer');
       document.body.classList.add('stale');
+      return;
     }
+    if (!isKept) keep(view);
+    show(view);
+  } finally {
+    setTimeout(look, EVERY);
   }
-  setTimeout(look, EVERY);
 }
 setInterval(() => fill('heard', heard === null ? '' : 'heard ' + ago((Date.now() - heard) / 1000) + (paused ? ', paused' : '')), 1000);
 find('pause').addEventListener('click', event => {
