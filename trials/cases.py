@@ -17,11 +17,11 @@ import sys
 import tempfile
 import time
 
-from initiator import CHECK_CONDITION, Closed, Refused, Session
+from initiator import CHECK_CONDITION, Closed, Failed, Refused, Session
 from running import APART, HOST, PORT, TARGET, Wrong, made
 
 ISID = 0x400001370000
-FAULTS = (Wrong, Closed, Refused, OSError, KeyError, IndexError, AssertionError, subprocess.SubprocessError)
+FAULTS = (Wrong, Closed, Failed, Refused, OSError, KeyError, IndexError, AssertionError, subprocess.SubprocessError)
 
 
 class NotHere(Exception):

@@ -10,17 +10,19 @@ array is killed and started again. Then it looks:
   - each history has as many entries as were answered, and what lies in the files is what was read last.
 
 A seed says what is asked and where threads stand, not what the machine makes of it: the same seed finds the same thing often, not always.
-Ends with status 1 where something was found; each line of that has its seed.
+Ends with status 1 where something was found; each line of that has its seed. Ends with status 3 where nothing was, and of some history
+it was not decided within bounds whether it has an order (trials/orders.py): of those nothing is known.
 
 usage: trials/chaos.py [--seeds N] [--from SEED] [--jobs J]       N seeds, 50 where nothing is said
        trials/chaos.py --seed SEED [--times N]                    one of them, N times, with what was seen
-       trials/chaos.py --found                                    those of trials/chaos_found.txt, which once found something
+       trials/chaos.py --found [--seeds N]                        those of trials/chaos_found.txt, which once found something; and N more
        trials/chaos.py --planted [NAME..]                         has to find what is planted, within 50 seeds each: by the library, or
                                                                   in copies of the tree (trials/chaos_plants.py)
 
 `--first` ends with the first that is found. `--locks` tells of each lock how often it was taken, and how long it was held.
 `--stays-lost` expects a disk that hung past its deadline to serve no more until a restart. The program is ./arrayd, or what ARRAYD
-names. Locks are seen in one that tools/unproved.py compiled; in another one only the calls of the system are stood at. Histories are
+names. Locks are seen in one that tools/unproved.py compiled. In another one, as a proved one, threads are stood at calls of the system and
+stopped between them, and all is looked at but locks: the summary says so. `--unproved` takes one that it compiles in its place. Histories are
 left in the folder CHAOS_HISTORIES, where that is set. Wants a C compiler and the GNU C library.
 """
 
@@ -40,8 +42,8 @@ import time
 
 from chaos_hosts import BLOCKS, UNITS, Host, Load, Operator, last_look, numbers_in
 from chaos_model import ATTACH, READ, RESTART, Op, Unit
-from chaos_plants import PLANTS, compile_with
-from chaos_run import FAULTS, Chaos, Names, library
+from chaos_plants import PLANTS, compile_with, compiled
+from chaos_run import FAULTS, Chaos, Names, library, sees_locks
 from free_port import free_port
 from initiator import BUSY
 from locks import classes_of, found_wrong
@@ -49,6 +51,8 @@ from orders import order_of, why_not
 from reservations import NEXUSES
 from running import ARRAYD, TOP, Array, Wrong, made
 
+# So many seeds, where nothing is said.
+MANY = 50
 # So long nothing is answered, in seconds, before a run counts as one that stands still; longer where much else runs.
 STILL = 15
 
@@ -296,27 +300,34 @@ def tell_locks(results):
 
 
 def many(seeds, words, built):
+    """The status with which the script ends."""
     began, results = time.monotonic(), []
     for result in each(seeds, built, words.jobs, stays_lost=words.stays_lost):
         results.append(result)
         tell(result, words.seed is not None)
     if words.locks:
         tell_locks(results)
-    found, undecided = ([result.seed for result in results if told(result)] for told in (lambda one: one.findings, lambda one: one.undecided))
-    if undecided:
-        print(f"not decided, since too much of it was at once: a history of seeds {sorted(undecided)}")
-    print(f"{len(results)} seeds, {sum(one.commands for one in results)} commands, {sum(one.points for one in results)} points, "
-          f"{sum(one.stops for one in results)} stops, {sum(one.takes for one in results)} locks taken, "
-          f"{time.monotonic() - began:.0f} s: " + (f"found by {sorted(found)}" if found else "nothing found"))
-    return not found
+    count = lambda what: sum(getattr(one, what) for one in results)
+    found, undecided = (sorted(one.seed for one in results if getattr(one, what)) for what in ("findings", "undecided"))
+    if not count("takes"):
+        print("no lock was seen: this is no program that tools/unproved.py compiled, and the order of its locks was not looked at")
+    print(f"{len(results)} seeds, {count('commands')} commands, {count('points')} points, {count('stops')} stops, {count('takes')} locks taken, "
+          f"{time.monotonic() - began:.0f} s: " + (f"found by {found}" if found else "nothing found")
+          + (f"; {count('undecided')} of {UNITS * len(results)} histories NOT decided, of seeds {undecided}" if undecided else ""))
+    return 1 if found else 3 if undecided else 0
 
 
 def first_found(words, built, fault=None):
     """The first line of what is found, with the seed, and how many were tried; within as many seeds as there may be."""
-    for count, result in enumerate(each(range(words.first, words.first + words.seeds), built, words.jobs, fault, words.stays_lost), 1):
+    for count, result in enumerate(each(range(words.first, words.first + (words.seeds or MANY)), built, words.jobs, fault, words.stays_lost), 1):
         if result.findings:
             return f"found by seed {result.seed}, the {count}. of them: " + "; ".join(one.splitlines()[0] for one in result.findings[:2])
     return ""
+
+
+def again(program, *words, **how):
+    """This script over another program."""
+    return subprocess.run([sys.executable, os.path.abspath(__file__), *words], env={**os.environ, "ARRAYD": program}, text=True, check=False, **how)
 
 
 def planted(name, words, built, folder):
@@ -324,10 +335,8 @@ def planted(name, words, built, folder):
     if name in FAULTS:
         told = first_found(words, built, name)
     else:
-        program = os.path.join(folder, name)
-        compile_with(name, program)
-        again = [sys.executable, os.path.abspath(__file__), "--first", "--seeds", str(words.seeds), "--jobs", str(words.jobs)]
-        told = subprocess.run(again, env={**os.environ, "ARRAYD": program}, stdout=subprocess.PIPE, text=True, check=False).stdout.strip()
+        program = compile_with([PLANTS[name]], os.path.join(folder, name))
+        told = again(program, "--first", "--seeds", str(words.seeds or MANY), "--jobs", str(words.jobs), stdout=subprocess.PIPE).stdout.strip()
     print(f"{name}: {told or 'NOT found'}", flush=True)
     return bool(told)
 
@@ -337,11 +346,18 @@ def seeds_found():
         return [int(line.split()[0]) for line in file if line.strip() and not line.startswith("#")]
 
 
+def seeds_of(words):
+    if words.seed is not None:
+        return [words.seed] * words.times
+    count = words.seeds or (0 if words.found else MANY)
+    return [*(seeds_found() if words.found else ()), *range(words.first, words.first + count)]
+
+
 def main():
     words = argparse.ArgumentParser(usage=__doc__.split("usage: ")[1].split("\n\n")[0])
-    for name, default in (("--seeds", 50), ("--from", 1), ("--seed", None), ("--times", 1), ("--jobs", max(1, (os.cpu_count() or 2) // 2))):
+    for name, default in (("--seeds", None), ("--from", 1), ("--seed", None), ("--times", 1), ("--jobs", max(1, (os.cpu_count() or 2) // 2))):
         words.add_argument(name, type=int, default=default, dest=name.strip("-") if name != "--from" else "first")
-    for name in ("--found", "--locks", "--stays-lost"):
+    for name in ("--found", "--locks", "--stays-lost", "--unproved"):
         words.add_argument(name, action="store_true")
     words.add_argument("--first", action="store_true", dest="only_first")
     words.add_argument("--planted", nargs="*", choices=[*FAULTS, *PLANTS], default=None)
@@ -350,19 +366,18 @@ def main():
         sys.exit(f"chaos.py: there is no program {ARRAYD}")
     with tempfile.TemporaryDirectory() as folder:
         built = library(folder)
-        if words.planted is not None:
-            is_well = all([planted(name, words, built, folder) for name in words.planted or (*FAULTS, *PLANTS)])
+        if words.unproved and not sees_locks(ARRAYD, built):
+            rest = [word for word in sys.argv[1:] if word != "--unproved"]
+            status = again(compiled(TOP, os.path.join(folder, "arrayd")), *rest).returncode
+        elif words.planted is not None:
+            status = 0 if all([planted(name, words, built, folder) for name in words.planted or (*FAULTS, *PLANTS)]) else 1
         elif words.only_first:
             told = first_found(words, built)
             print(told, end="")
-            is_well = not told
-        elif words.found:
-            is_well = many(seeds_found(), words, built)
-        elif words.seed is not None:
-            is_well = many([words.seed] * words.times, words, built)
+            status = 1 if told else 0
         else:
-            is_well = many(range(words.first, words.first + words.seeds), words, built)
-    sys.exit(0 if is_well else 1)
+            status = many(seeds_of(words), words, built)
+    sys.exit(status)
 
 
 if __name__ == "__main__":

@@ -1,14 +1,9 @@
-#!/usr/bin/env python3
-"""Compiles arrayd with a fault in it, unproved, in a copy of the tree: for `trials/chaos.py --planted`, which has to find it.
-
-usage: trials/chaos_plants.py NAME FILE        NAME is one of those below; the program is left as FILE
-"""
+"""What is planted in copies of the tree, to see that it is found: for `trials/chaos.py --planted` and for trials/broken.py."""
 
 import os
 import shutil
 import subprocess
 import sys
-import tempfile
 
 from running import TOP
 
@@ -28,21 +23,26 @@ PLANTS = {
 }
 
 
-def compile_with(name, to):
-    path, old, new = PLANTS[name]
-    with tempfile.TemporaryDirectory() as folder:
-        tree = os.path.join(folder, "tree")
-        shutil.copytree(TOP, tree, ignore=shutil.ignore_patterns(".git", "out", "__pycache__"))
+def copy_with(edits, folder):
+    """A copy of the tree in which these are planted: its path."""
+    tree = os.path.join(folder, "tree")
+    shutil.copytree(TOP, tree, ignore=shutil.ignore_patterns(".git", "out", "__pycache__"))
+    for path, old, new in edits:
         with open(os.path.join(tree, path), encoding="utf-8") as file:
             text = file.read()
         if text.count(old) != 1:
-            sys.exit(f"chaos_plants.py: {path} does not have what {name} turns")
+            sys.exit(f"{path} has {text.count(old)} times what is to be planted in place of: {old.strip()}")
         with open(os.path.join(tree, path), "w", encoding="utf-8") as file:
             file.write(text.replace(old, new))
-        subprocess.run([sys.executable, os.path.join(tree, "tools", "unproved.py"), "program", os.path.abspath(to)], check=True)
+    return tree
 
 
-if __name__ == "__main__":
-    if len(sys.argv) != 3 or sys.argv[1] not in PLANTS:
-        sys.exit(__doc__)
-    compile_with(*sys.argv[1:])
+def compiled(tree, program):
+    """Compiles the program of a tree, unproved, as this file."""
+    subprocess.run([sys.executable, os.path.join(tree, "tools", "unproved.py"), "program", program], check=True)
+    return program
+
+
+def compile_with(edits, folder):
+    """The program of a copy of the tree with these in it."""
+    return compiled(copy_with(edits, folder), os.path.join(folder, "planted"))

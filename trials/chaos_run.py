@@ -14,6 +14,7 @@ import mmap
 import os
 import re
 import subprocess
+import tempfile
 import time
 
 from running import TOP
@@ -49,6 +50,14 @@ def library(folder):
     sources = sorted(glob.glob(os.path.join(TOP, "trials", "chaos", "*.c")))
     subprocess.run(["cc", "-O2", "-fno-omit-frame-pointer", "-shared", "-fPIC", "-o", path, *sources, "-ldl", "-lpthread"], check=True)
     return path
+
+
+def sees_locks(program, built):
+    """Whether the library finds in a program what takes locks and lets them go."""
+    with tempfile.TemporaryDirectory() as folder:
+        chaos = Chaos(folder, built, 0)
+        subprocess.run([program, "--version"], env={**os.environ, **chaos.environment}, stdout=subprocess.DEVNULL, check=True)
+        return chaos.seen.hooked > 0
 
 
 class Names:

@@ -14,7 +14,7 @@ import socket
 import sys
 import tempfile
 
-from initiator import Session, discover
+from initiator import Closed, Session, discover
 from running import Array, made
 
 
@@ -70,4 +70,7 @@ def main():
 
 
 if __name__ == "__main__":
-    main()
+    try:
+        main()
+    except (Closed, ConnectionError) as fault:
+        sys.exit(f"the session beside them ended: {fault!r}")

@@ -45,7 +45,7 @@ def glibc():
 
 
 HERE = os.path.dirname(os.path.abspath(__file__))
-CC, RUSTC, QEMU = commands("cc"), commands("rustc"), commands("qemu-system-x86_64")
+CC, RT, RUSTC, QEMU = commands("cc"), commands("rt"), commands("rustc"), commands("qemu-system-x86_64")
 MACHINES = folder("TWO_MACHINES", "trials/two_machines.py build FOLDER")
 LINUX = folder("LINUX_HOST", "trials/linux_host.py build FOLDER")
 PACKAGED = folder("PACKAGE_MACHINE", "trials/package.py build FOLDER")
@@ -57,10 +57,12 @@ TRIALS = [
     Trial("first_steps", "first_steps.py", "first_steps.py", [], 1, 1, "a program that cannot be used as the README says"),
     Trial("faults", "faults.py", "faults.py", [], 1, 1, "a fault of the words with another text or status"),
     Trial("orders", "orders_cases.py", "orders_cases.py", [], 1, 1, "a checker of histories that takes a wrong one, or refuses a right one"),
-    Trial("chaos", "chaos.py --seeds 1000", "chaos.py --seeds 50", [CC, glibc], 1200, 60,
+    Trial("chaos", "chaos.py --unproved --found --seeds 1000", "chaos.py --unproved --found --seeds 50", [CC, RT, glibc], 1200, 60,
           "threads that wait for ever, or answers that no order of the commands gives; locks that are taken in another order"),
-    Trial("chaos_found", "chaos.py --found", "chaos.py --found", [CC, glibc], 20, 20, "the same by the seeds that once found something"),
-    Trial("chaos_planted", "chaos.py --planted", None, [CC, glibc, commands("rt")], 600, 0, "a chaos that does not find what was planted"),
+    Trial("chaos_as_it_is", "chaos.py --seeds 200", "chaos.py --seeds 10", [CC, glibc], 240, 15,
+          "the same, but for the order of locks, of the program itself, where that is proved"),
+    Trial("chaos_planted", "chaos.py --planted", None, [CC, RT, glibc], 600, 0, "a chaos that does not find what was planted"),
+    Trial("broken", "broken.py", None, [CC, RT, glibc], 900, 0, "a script of these that does not find what it looks for"),
     Trial("reservations", "reservations.py", "reservations.py --requests 300", [], 10, 3,
           "a rule of SPC-4 that registrations break in an order that no table has"),
     Trial("control", "control.py", "control.py", [], 14, 14,

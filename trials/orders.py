@@ -19,9 +19,10 @@ from chaos_model import ATTACH, COMPARE, DOWN, FLUSH, IN, MISCOMPARE, OUT, READ,
 from initiator import BUSY, CHECK_CONDITION, GOOD, RESERVATION_CONFLICT
 from reservations import REGISTER, REGISTER_AND_IGNORE
 
-# So many states at most; a history that needs more is told as one that was not decided. An unlucky choice early on may cost them all:
-# so the search begins anew some times, each with other choices first, and only the last goes on so far.
-FEW, MOST, TIMES = 2_000, 30_000, 3
+# How a history is searched: with which choices first (0: by when they ended), and with how many states at most. An unlucky choice early
+# on may cost them all, so the search begins anew some times. A history that no search decides is told as one that was not decided.
+FEW, MOST = 2_000, 30_000
+SEARCHES = ((0, FEW), (1, FEW), (2, FEW), (0, MOST), *((seed, MOST) for seed in range(3, 11)))
 
 Order = collections.namedtuple("Order", "is_found is_decided placed left states unit")
 
@@ -87,7 +88,7 @@ def numbers_found(ops):
 
 
 class Search:
-    def __init__(self, ops, unit, dice=None, most=MOST):
+    def __init__(self, ops, unit, dice, most):
         self.dice, self.most = dice, most
         # what would be tried first by when it ended is tried up to so much later
         self.spread = max((op.end - op.start for op in ops if op.end is not None), default=0)
@@ -207,11 +208,11 @@ class Search:
 
 
 def order_of(ops, unit):
-    for seed in range(TIMES):
-        order = Search(ops, unit, random.Random(seed) if seed else None, FEW).run(unit)
+    for seed, most in SEARCHES:
+        order = Search(ops, unit, random.Random(seed) if seed else None, most).run(unit)
         if order.is_decided:
-            return order
-    return Search(ops, unit).run(unit)
+            break
+    return order
 
 
 def why_not(order, shown=8):

@@ -62,6 +62,9 @@ is 'nor one of the control socket, where there is none' "$(console up 1 > "$plac
 is 'two that ask at once each get their own answer' "$(for i in 1 2 3 4 5 6 7 8; do console status & done | grep -c '^unit [01] owner 2')" 16
 echo status > "$place/run/console"
 is 'what an echo has asked is not taken for an answer' "$(console down 1)" down
+# which takes a second longer
+kill -STOP "$pid"
+(sleep 1; kill -CONT "$pid") &
 console quit
 is 'quit waits until it has ended' "$(kill -0 "$pid" 2> /dev/null && echo there)" ''
 ends

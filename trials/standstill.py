@@ -74,7 +74,7 @@ def side_by_side(hosts, work, seconds):
             session = login(1 + number % 2, number, timeout=60)
             while time.monotonic() < end and not faults:
                 work(session, number)
-        except (*FAULTS, Failed) as fault:
+        except FAULTS as fault:
             faults.append(fault)
 
     threads = [threading.Thread(target=one, args=(number,)) for number in range(hosts)]

@@ -114,8 +114,8 @@ def lacks(what, array, refused=REFUSED, timeout=10):
         status = array.quit()
         if status != 0:
             raise Wrong(f"the array ended with status {status}")
-    except Wrong as wrong:
-        raise Wrong(f"lack of {what}: {wrong}") from None
+    except (Wrong, *REFUSED) as wrong:
+        raise Wrong(f"lack of {what}: {wrong if isinstance(wrong, Wrong) else repr(wrong)}") from None
     finally:
         array.kill()
     end = "wait" if socket.timeout in refused else "are closed"
