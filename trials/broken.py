@@ -4,6 +4,8 @@ status 1 and says why. What is broken does not disturb the others of its program
 scripts, and for some the program is as it is, and a script or a table is broken. Ends with status 1 where a script finds nothing.
 
 usage: trials/broken.py [NAME..]      all scripts that can run here, or these; ./trials.sh --list has the names
+
+The program as it is, for some of them, is ./arrayd, or what ARRAYD names.
 """
 
 import collections
@@ -60,7 +62,7 @@ BROKEN = {
     "fencing": Broken(OTHER, "crates/reservations/src/preempt.rt", "        retain_without_others_of_key(&mut self.registrants",
                       "        if !kind.is_of_all_registrants() && request.kind != 6 {\n            self.count();\n"
                       "            return good(nexus, notice);\n        }\n"
-                      "        retain_without_others_of_key(&mut self.registrants", "fencing.py", "WRONG A2 READ KEYS"),
+                      "        retain_without_others_of_key(&mut self.registrants", "fencing.py", "WRONG B1 READ KEYS"),
     "registrations": Broken(OTHER, "crates/aptpl_format/src/spelling.rt", "FileVersion::Version2 => holder.group().number()",
                             "FileVersion::Version2 => 1 + 0 * holder.group().number()", "registrations.py",
                             "FAILED  a running array: a holder of a pair"),
@@ -103,7 +105,7 @@ def tried(where, names):
     edits = {broken[1:4] for broken in BROKEN.values() if broken.where == where}
     with tempfile.TemporaryDirectory() as folder:
         tree = copy_with(sorted(edits), folder)
-        program = ARRAYD if where == AS_IT_IS else compiled(tree, os.path.join(folder, "arrayd"))
+        program = os.path.abspath(ARRAYD) if where == AS_IT_IS else compiled(tree, os.path.join(folder, "arrayd"))
         return all([finds(name, BROKEN[name], tree, program) for name in names])
 
 

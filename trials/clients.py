@@ -17,6 +17,9 @@ import time
 from running import PORT, TARGET, Array, made
 
 BLOCKS = 64 * 2048
+# Why, says docs/TESTING.md.
+MAY_FAIL = {"CompareAndWrite.Simple", "CompareAndWrite.Miscompare", "Inquiry.BlockLimits", "iSCSIdatasn.iSCSIDataSnInvalid",
+            "Sanitize.Readonly", "Write10.Residuals", "Write16.Residuals"}
 
 
 class Tried:
@@ -84,8 +87,21 @@ def fio(tried, folder, url):
         nbd.wait()
 
 
-def test_cu(url, kept):
-    """Counts of iscsi-test-cu, and which of its tests failed; all that it said is kept."""
+def failed_in(lines):
+    """The tests of iscsi-test-cu that failed, as SUITE.TEST."""
+    suite, test, failed = "", "", set()
+    for line in lines:
+        if found := re.match(r"Suite: (\S+)", line):
+            suite = found[1]
+        elif found := re.match(r"  Test: (\S+)", line):
+            test = found[1]
+        elif re.match(r" +[0-9]+\. .* - ", line):
+            failed.add(f"{suite}.{test}")
+    return failed
+
+
+def test_cu(tried, url, kept):
+    """Counts of iscsi-test-cu, of whose tests no other may fail than those of docs/TESTING.md; all that it said is kept."""
     print(f"iscsi-test-cu {url}", flush=True)
     words = ["iscsi-test-cu", "--dataloss", "--allow-sanitize", "-t", "ALL", url]
     with open(f"{kept}/{url.split('/')[2].split(':')[1]}", "w+", encoding="utf-8", errors="replace") as said:
@@ -93,9 +109,10 @@ def test_cu(url, kept):
         said.seek(0)
         lines = said.read().splitlines()
     print("\n".join(line for line in lines if re.match(" +(suites|tests|asserts) ", line)))
-    failed = [at for at, line in enumerate(lines) if re.match(r" +[0-9]+\. .* - ", line)]
-    shown = sorted({number for at in failed for number in (max(0, at - 1), at)})
-    print("\n".join(lines[number] for number in shown[:200]), flush=True)
+    failed = failed_in(lines)
+    tried.said = "\n".join(lines)
+    tried.tell(failed <= MAY_FAIL and any("Run Summary" in line for line in lines), f"of its tests failed {', '.join(sorted(failed))}",
+               ", which are others than those of docs/TESTING.md")
 
 
 def everything(array, folder, is_quick):
@@ -114,7 +131,7 @@ def everything(array, folder, is_quick):
         made(f"{folder}/1.img", BLOCKS)
         kept = tempfile.mkdtemp()
         for url in (one, two):
-            test_cu(url, kept)
+            test_cu(tried, url, kept)
         print(f"all that iscsi-test-cu said lies in {kept}")
     return tried.is_well
 
