@@ -129,11 +129,11 @@ is 'there is none to a disk that is not there' "$(cat "$place/complains") $ended
 is 'and none was made' "$(ls "$place/state" | grep -c unit2)" 0
 
 # a folder is the array's, and who asks may be root: no link in it is followed
-echo stays > "$place/other"
+echo stays > "$place/target"
 mkdir "$place/linked"
 mkfifo "$place/linked/told"
-ln -s "$place/other" "$place/linked/console"
-is 'a console that is a link is none' "$(service/arrayd-console "$place/linked" quit 2> /dev/null; echo $?) $(cat "$place/other")" '3 stays'
+ln -s "$place/target" "$place/linked/console"
+is 'a console that is a link is none' "$(service/arrayd-console "$place/linked" quit 2> /dev/null; echo $?) $(cat "$place/target")" '3 stays'
 
 # what may be asked by who may only look, and what the watch tells
 export ARRAYD_CONTROL="$place/run/control"
