@@ -137,22 +137,30 @@ is 'a console that is a link is none' "$(service/arrayd-console "$place/linked" 
 
 # what may be asked by who may only look, and what the watch tells
 export ARRAYD_CONTROL="$place/run/control"
-if command -v systemd-socket-activate > /dev/null; then
-    begin unit0 unit1
-    systemd-socket-activate -l "$place/run.status" service/arrayd-status --answer "$place/run" 2> /dev/null &
-    door=$!
-    sleep 1
-    look() {
-        service/arrayd-status "$place/run" "$@" 2> /dev/null
-        echo $?
-    }
-    is 'who may look asks for status' "$(look | sed 's/ entries.*//')" 'unit 0 owner 1 states 0 1 generation 0 keys 0 type 0
+begin unit0 unit1
+# as systemd does: it holds the socket, and starts anew what has ended
+python3 - "$place/run" << 'END' &
+import os, socket, subprocess, sys
+with socket.socket(socket.AF_UNIX) as door:
+    door.bind(sys.argv[1] + ".status")
+    door.listen()
+    os.dup2(door.fileno(), 3)
+    while True:
+        subprocess.run(["service/arrayd-status", "--answer", sys.argv[1]], pass_fds=[3], check=False)
+END
+door=$!
+until [ -S "$place/run.status" ]; do sleep 0.1; done
+look() {
+    service/arrayd-status "$place/run" "$@" 2> /dev/null
+    echo $?
+}
+is 'who may look asks for status' "$(look | sed 's/ entries.*//')" 'unit 0 owner 1 states 0 1 generation 0 keys 0 type 0
 unit 1 owner 2 states 1 0 generation 0 keys 0 type 0
 0'
-    is 'for sessions, keys and the version' "$(look sessions) $(look keys 0) $(look keys 7) $(look version | head -1)" "0 0 no unit
+is 'for sessions, keys and the version' "$(look sessions) $(look keys 0) $(look keys 7) $(look version | head -1)" "0 0 no unit
 0 $("$ARRAYD" --version)"
-    is 'and for nothing else' "$(look quit) $(look down 1) $(look end 3) $(look up 1)" '2 2 2 2'
-    refused=$(python3 - "$place/run.status" << 'END'
+is 'and for nothing else' "$(look quit) $(look down 1) $(look end 3) $(look up 1)" '2 2 2 2'
+refused=$(python3 - "$place/run.status" << 'END'
 import socket, sys
 for line in (b"quit\n", b"down 1\n", b"status\nquit\n", b"status; quit\n", b"--limit 1 quit\n", b"x" * 4096):
     with socket.socket(socket.AF_UNIX) as way:
@@ -166,24 +174,24 @@ for line in (b"quit\n", b"down 1\n", b"status\nquit\n", b"status; quit\n", b"--l
             print(line[:16], False)
 END
 )
-    is 'whatever is sent' "$(echo "$refused" | grep -c False) $(console status | grep -c 'states [01] [01] ')" '5 2'
-    service/arrayd-watch "$place/run" > "$place/watch" 2>&1
-    is 'the watch has nothing to say of an array that is well' "$? $(cat "$place/watch")" '0 '
-    kill -STOP "$pid"
-    service/arrayd-watch "$place/run" > "$place/watch" 2>&1
-    is 'and says that one which stands still does not answer' "$? $(cat "$place/watch")" '3 arrayd-watch: timed out'
-    kill -CONT "$pid"
-    console quit
-    ends
-    kill "$door" 2> /dev/null
-    at=127.0.0.1:$(python3 trials/free_port.py)
-    export ARRAYD_HTTP="$at"
-    begin unit0 unit1
-    console down 1 > "$place/down"
-    service/arrayd-watch "$place/run" > "$place/watch" 2>&1
-    is 'what is degraded is told, and is no failure' "$? $(cut -c 1-9 "$place/watch" | sort -u)" '0 degraded:'
-    truncate -s 512 "$place/disk0"
-    python3 - "$port" << 'END'
+is 'whatever is sent' "$(echo "$refused" | grep -c False) $(console status | grep -c 'states [01] [01] ')" '5 2'
+service/arrayd-watch "$place/run" > "$place/watch" 2>&1
+is 'the watch has nothing to say of an array that is well' "$? $(cat "$place/watch")" '0 '
+kill -STOP "$pid"
+service/arrayd-watch "$place/run" > "$place/watch" 2>&1
+is 'and says that one which stands still does not answer' "$? $(cat "$place/watch")" '3 arrayd-watch: timed out'
+kill -CONT "$pid"
+console quit
+ends
+kill "$door" 2> /dev/null
+at=127.0.0.1:$(python3 trials/free_port.py)
+export ARRAYD_HTTP="$at"
+begin unit0 unit1
+console down 1 > "$place/down"
+service/arrayd-watch "$place/run" > "$place/watch" 2>&1
+is 'what is degraded is told, and is no failure' "$? $(cut -c 1-9 "$place/watch" | sort -u)" '0 degraded:'
+truncate -s 512 "$place/disk0"
+python3 - "$port" << 'END'
 import sys
 sys.path.insert(0, "trials")
 from initiator import Session
@@ -191,13 +199,12 @@ session = Session("127.0.0.1", int(sys.argv[1]) + 4, "iqn.2000-01.test:array")
 session.ready(0)
 session.command(0, [0x28, 0, 0, 0, 0, 100, 0, 0, 1, 0], expected=512)
 END
-    service/arrayd-watch "$place/run" > "$place/watch" 2>&1
-    is 'what is wrong is one, and told' "$? $(grep -c 'unit 0.*call=read' "$place/watch")" '1 1'
-    truncate -s 8M "$place/disk0"
-    console quit
-    ends
-    unset ARRAYD_HTTP
-fi
+service/arrayd-watch "$place/run" > "$place/watch" 2>&1
+is 'what is wrong is one, and told' "$? $(grep -c 'unit 0.*call=read' "$place/watch")" '1 1'
+truncate -s 8M "$place/disk0"
+console quit
+ends
+unset ARRAYD_HTTP
 unset ARRAYD_CONTROL
 
 # what systemd is told of an array
