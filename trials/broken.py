@@ -68,10 +68,12 @@ BROKEN = {
                             "FAILED  a running array: a holder of a pair"),
     "calls": Broken(OTHER, "crates/disk_files/src/flushes.rt", "            Err(error) => {\n                self.lose();\n"
                     "                Err(FlushFault::Failed(error))\n", "            Err(_) => {\n                Ok(())\n",
-                    "calls.py", "GOOD, and not"),
+                    "calls.py --jobs 2", "GOOD, and not"),
+    # of the disk, which has more blocks than a registration file
     "calls_in_place": Broken(OTHER, "crates/disk_files/src/blocks.rt", "                self.tell(Call::Flush, 0, 0, error);\n"
                              "                Err(DeviceFailed)\n", "                self.tell(Call::Flush, 0, 0, error);\n"
-                             "                Ok(())\n", "calls.py --in-place", "GOOD, and not"),
+                             "                if self.count > 67 {\n                    return Ok(());\n                }\n"
+                             "                Err(DeviceFailed)\n", "calls.py --in-place --jobs 2", "GOOD, and not"),
     "clients": Broken(OTHER, "crates/identity/src/luns.rt", "    let units = how_many(place, select);\n",
                       "    let units = how_many(place, select).min(1);\n", "clients.py quick", "FAILED    it says: Lun:1"),
     "orders": Broken(AS_IT_IS, "trials/orders.py", "if first is None or op.start <= first]", "if first is None or op]", "orders_cases.py",
