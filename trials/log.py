@@ -209,6 +209,18 @@ def session_ended(folder, log):
         log.find("connection_ended", why="connection_closed", **{"from": address})
 
 
+@case
+def strangers(folder, log):
+    with Array([disk(folder)], log=log.path) as array:
+        for _ in range(100):
+            socket.create_connection(("127.0.0.1", PORT)).close()
+        until(lambda: log.events().count("connection_ended") >= 32, 20)
+        time.sleep(2)
+        array.quit()
+    is_so("told one by one", log.events().count("connection_ended"), 32)
+    log.find("connections_ended", count="68")
+
+
 # ---- units
 
 @case

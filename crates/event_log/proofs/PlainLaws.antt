@@ -235,6 +235,7 @@ each (events.SessionEnded who by tsih end) =
     let rest : List (List ℕ) = codes " tsih=" ∷ decimal tsih ∷ why_in end in
     initiator who (path_in by rest) (path by rest (both _ _ (number tsih) (why end)))
 each (events.ConnectionEnded by end) = path by (why_in end) (why end)
+each (events.ConnectionsEnded count) = both _ _ (number count) refl
 each (events.GroupsSet unit group first second by) =
     both _ _ (number unit) (both _ _ (number group) (both _ _ (access_plain first) (both _ _ (access_plain second) (by_plain by))))
 each (events.NotMoved unit group end by) =

@@ -160,6 +160,7 @@ parts (events.LoginRefused who path status cause) =
 parts (events.SessionEnded who path tsih why) =
     codes "event=session_ended" ∷ initiator_in who (path_in path (codes " tsih=" ∷ decimal tsih ∷ why_in why))
 parts (events.ConnectionEnded path why) = codes "event=connection_ended" ∷ path_in path (why_in why)
+parts (events.ConnectionsEnded count) = codes "event=connections_ended count=" ∷ decimal count ∷ []
 parts (events.GroupsSet unit group first second by) = set_in unit group first second (by_in by)
 parts (events.NotMoved unit group why by) = stay_in unit group why (by_in by)
 parts (events.Reserved unit asked who group) =

@@ -57,9 +57,46 @@ pub struct Counts {
     /// Those that asked for a flush before their answer, and those of them that ended with MEDIUM ERROR.
     pub flushes: u64,
     pub failed_flushes: u64,
-    /// By the buckets of the times that they took, and these times together.
+    /// By the buckets of the times that they took, and these times together: of all, of those that read blocks, and of those that wrote
+    /// some.
     pub times: [u64; BUCKETS],
     pub micros: u64,
+    pub read_micros: u64,
+    pub write_micros: u64,
+}
+
+/// So many commands have answers that leave together: all of them, those that read blocks, and those that wrote some.
+#[derive(Clone, Copy)]
+pub struct Leaving {
+    pub all: u64,
+    pub reads: u64,
+    pub writes: u64,
+}
+
+impl Leaving {
+    /// Of no command.
+    pub const fn none() -> Leaving {
+        Leaving {
+            all: 0,
+            reads: 0,
+            writes: 0,
+        }
+    }
+
+    /// One more, with this operation.
+    pub fn add(&mut self, operation: Operation) {
+        self.all = self.all.wrapping_add(1);
+        match operation {
+            Operation::Read => self.reads = self.reads.wrapping_add(1),
+            Operation::Write | Operation::CompareAndWrite => {
+                self.writes = self.writes.wrapping_add(1);
+            }
+            Operation::SynchronizeCache
+            | Operation::ReserveOut
+            | Operation::SetGroups
+            | Operation::Other => {}
+        }
+    }
 }
 
 // The place of an operation among all.
@@ -109,6 +146,11 @@ fn add_each(sums: &mut [u64], others: &[u64]) {
     }
 }
 
+// Adds the time of so many commands, each of which took so long.
+fn add_times(sum: &mut u64, micros: u64, commands: u64) {
+    *sum = sum.wrapping_add(micros.wrapping_mul(commands));
+}
+
 impl Counts {
     /// Of no command.
     pub const fn none() -> Counts {
@@ -124,6 +166,8 @@ impl Counts {
             failed_flushes: 0,
             times: [0; BUCKETS],
             micros: 0,
+            read_micros: 0,
+            write_micros: 0,
         }
     }
 
@@ -144,11 +188,13 @@ impl Counts {
     }
 
     /// Counts the times of so many commands, each of which took so long from its last byte to its answer.
-    pub fn take(&mut self, micros: u64, commands: u64) {
+    pub fn take(&mut self, micros: u64, commands: Leaving) {
         if let Some(count) = self.times.get_mut(bucket_of(micros)) {
-            *count = count.wrapping_add(commands);
+            *count = count.wrapping_add(commands.all);
         }
-        self.micros = self.micros.wrapping_add(micros.wrapping_mul(commands));
+        add_times(&mut self.micros, micros, commands.all);
+        add_times(&mut self.read_micros, micros, commands.reads);
+        add_times(&mut self.write_micros, micros, commands.writes);
     }
 
     // Counts the flush of a command that ended so.
@@ -172,6 +218,16 @@ impl Counts {
         self.flushes = self.flushes.wrapping_add(other.flushes);
         self.failed_flushes = self.failed_flushes.wrapping_add(other.failed_flushes);
         self.micros = self.micros.wrapping_add(other.micros);
+        self.read_micros = self.read_micros.wrapping_add(other.read_micros);
+        self.write_micros = self.write_micros.wrapping_add(other.write_micros);
+    }
+
+    /// How many commands had this operation.
+    pub fn of(&self, operation: Operation) -> u64 {
+        match self.commands.get(place_of(operation)) {
+            Some(count) => *count,
+            None => 0,
+        }
     }
 
     /// How many commands they are.

@@ -69,6 +69,8 @@ pub enum Event<'a> {
     SessionEnded(Initiator<'a>, Path, u16, Why),
     /// A connection ended that had not.
     ConnectionEnded(Path, Why),
+    /// So many more ended so, of which no line tells.
+    ConnectionsEnded(u64),
     /// The access states of a unit's groups were set: the tag of the one that is active/optimized now, and the states of both.
     GroupsSet(u8, u16, Access, Access, By<'a>),
     /// A unit was to move to a group, and stayed.

@@ -2,6 +2,7 @@
 
 use crate::event::{Event, Place};
 use crate::failures::{Failures, Tally};
+use crate::unflushed::{Unflushed, UnflushedTally};
 use crate::words::{Call, Cause, Part};
 use std::alloc::{AllocError, Global};
 use std::sync::atomic::{AtomicU64, Ordering};
@@ -38,6 +39,7 @@ struct OfUnit {
     back: AtomicU64,
     grew: AtomicU64,
     blocks: AtomicU64,
+    unflushed: UnflushedTally,
 }
 
 /// What is counted of events, by whoever tells them.
@@ -60,6 +62,8 @@ pub struct UnitHappenings {
     pub grew: u64,
     /// How many blocks its disk has.
     pub blocks: u64,
+    /// What was written to its disk and is not flushed.
+    pub unflushed: Unflushed,
 }
 
 /// What was seen of events.
@@ -134,6 +138,7 @@ impl OfUnit {
             back: AtomicU64::new(0),
             grew: AtomicU64::new(0),
             blocks: AtomicU64::new(0),
+            unflushed: UnflushedTally::none(),
         })
     }
 
@@ -158,6 +163,7 @@ impl OfUnit {
             hung: self.hung.seen(),
             grew: self.grew.load(Ordering::Relaxed),
             blocks: self.blocks.load(Ordering::Relaxed),
+            unflushed: self.unflushed.seen(),
         })
     }
 }
@@ -234,6 +240,11 @@ impl Ledger {
         if let Some(of_unit) = self.units.get(usize::from(unit)) {
             of_unit.blocks.store(blocks, Ordering::Relaxed);
         }
+    }
+
+    /// What is counted of what was written to the disk of a unit and is not flushed.
+    pub(crate) fn unflushed(&self, unit: u8) -> Option<&UnflushedTally> {
+        Some(&self.units.get(usize::from(unit))?.unflushed)
     }
 
     /// How many calls of a kind failed.

@@ -7,6 +7,8 @@ use crate::event::{Event, Place};
 use crate::meters::Meters;
 use crate::spelling::spell;
 use crate::stamp::Stamp;
+use crate::strangers::Strangers;
+use crate::unflushed::UnflushedTally;
 use crate::words::{Call, Part};
 use std::alloc::{AllocError, Global};
 use std::hint::spin_loop;
@@ -14,7 +16,7 @@ use std::sync::atomic::{AtomicU64, Ordering};
 use std::sync::{Arc, Mutex, MutexGuard};
 use std::thread;
 use std::thread::Parker;
-use std::time::Clock;
+use std::time::{Clock, Duration};
 
 /// How many bytes of lines are kept until they are written.
 pub const ROOM: usize = 256 * 1024;
@@ -36,6 +38,8 @@ pub(crate) struct Waiting {
     pub(crate) lines: String,
     // The line that is spelled.
     line: String,
+    // Connections that end without a login.
+    pub(crate) strangers: Strangers,
 }
 
 /// What all hands that hold a log share.
@@ -58,7 +62,18 @@ impl Waiting {
             untimed: String::with_capacity(alloc, UNTIMED)?,
             lines: String::with_capacity(alloc, ROOM)?,
             line: String::with_capacity(alloc, UNTIMED)?,
+            strangers: Strangers::none(),
         })
+    }
+
+    // Keeps the line of an event, or counts it among those of which one line tells. False: there was no room for it.
+    fn take(&mut self, now: Duration, event: &Event<'_>) -> bool {
+        if let Event::ConnectionEnded(..) = event
+            && !self.strangers.is_told(now.as_secs())
+        {
+            return true;
+        }
+        self.keep(event)
     }
 
     // Keeps the line of an event without its time. False: there was no room for it.
@@ -195,6 +210,11 @@ impl Log {
         }
     }
 
+    /// What is counted of what was written to the disk of a unit and is not flushed, where that is counted.
+    pub fn unflushed(&self, unit: u8) -> Option<&UnflushedTally> {
+        self.meters()?.unflushed(unit)
+    }
+
     /// The first so many of them are over, by what went well behind them.
     pub fn end(&self, unit: u8, part: Part, call: Call, count: u64) {
         if let Some(meters) = &self.meters {
@@ -267,7 +287,7 @@ impl Log {
         };
         let dropped = match shared.reach() {
             Some(mut waiting) => {
-                let is_kept = waiting.keep(event);
+                let is_kept = waiting.take(now, event);
                 let untold = waiting.give_time(Stamp::of(now));
                 if is_kept {
                     untold

@@ -1,10 +1,13 @@
 //! What a window shows of sessions: who they are, and what is counted of their commands. A session's worker alone counts, and
 //! nobody waits for a reader.
 
-use crate::counts::{Counts, Served};
-use crate::event::{Event, Initiator, Path, Place};
+use crate::counts::{Counts, Leaving, Served};
+use crate::event::{Event, Place};
 use crate::happenings::{Happenings, Ledger};
-use crate::words::{Call, Operation, Part, SessionType};
+use crate::recent::{Point, Ring};
+use crate::unflushed::UnflushedTally;
+use crate::visit::Visit;
+use crate::words::{Call, Operation, Part};
 use std::alloc::{AllocError, Global};
 use std::hint::spin_loop;
 use std::sync::atomic::{AtomicU64, Ordering};
@@ -16,38 +19,6 @@ const TRIES: u32 = 1000;
 
 /// What a number of microseconds is multiplied by where a unit stands beside it.
 const UNITS: u64 = 256;
-
-/// Who a session is: its initiator port, by which path it came, its TSIH, what it is for, and since when after the beginning of 1970.
-#[derive(Clone, Drop)]
-pub struct Visit {
-    pub name: Vec<u8>,
-    pub isid: u64,
-    pub path: Path,
-    pub tsih: u16,
-    pub kind: SessionType,
-    pub since: Duration,
-}
-
-impl Visit {
-    /// A session of this initiator, which is for this.
-    pub fn new(
-        alloc: Global,
-        who: Initiator<'_>,
-        path: Path,
-        tsih: u16,
-        kind: SessionType,
-        since: Duration,
-    ) -> Result<Visit, AllocError> {
-        Ok(Visit {
-            name: who.name.to_vec(alloc)?,
-            isid: who.isid,
-            path,
-            tsih,
-            kind,
-            since,
-        })
-    }
-}
 
 // What readers see of a session's commands: what is counted of them at each unit, and which was the last one and when it ended, in
 // microseconds of the clock that never goes back.
@@ -74,7 +45,7 @@ struct Meter {
 struct Sheet {
     counts: Counts,
     // So many commands have answers that have not left yet.
-    waiting: u64,
+    waiting: Leaving,
     // Readers do not see all of it.
     is_ahead: bool,
 }
@@ -97,6 +68,8 @@ struct Book {
     live: Vec<Arc<Meter, Global>>,
     ended: Vec<Counts>,
     begun: u64,
+    // What was counted until moments of the last ten minutes.
+    recent: Ring,
 }
 
 /// What is counted of an array.
@@ -180,9 +153,9 @@ fn clock(rt: &impl Clock) -> u64 {
 impl Sheet {
     // The answers that wait leave, so long after the last byte of their commands.
     fn settle(&mut self, took: u64) {
-        if self.waiting != 0 {
+        if self.waiting.all != 0 {
             self.counts.take(took, self.waiting);
-            self.waiting = 0;
+            self.waiting = Leaving::none();
             self.is_ahead = true;
         }
     }
@@ -208,7 +181,7 @@ impl Hand {
             && let Some(sheet) = self.units.get_mut(usize::from(unit))
         {
             sheet.counts.count(&served);
-            sheet.waiting = sheet.waiting.wrapping_add(1);
+            sheet.waiting.add(served.operation);
             self.last = Some(served.operation);
             self.is_waiting = true;
         }
@@ -281,6 +254,7 @@ impl Meters {
             live: Vec::new(alloc),
             ended: blank(alloc, units.saturating_mul(2))?,
             begun: 0,
+            recent: Ring::new(alloc, units)?,
         };
         Ok(Meters {
             units,
@@ -295,14 +269,21 @@ impl Meters {
         self.ticks.load(Ordering::Relaxed)
     }
 
-    /// Looks at the clock.
-    pub fn tick(&self, rt: &impl Clock) {
-        self.ticks.store(clock(rt), Ordering::Relaxed);
+    /// Looks at the clock: what it says, in microseconds.
+    pub fn tick(&self, rt: &impl Clock) -> u64 {
+        let now = clock(rt);
+        self.ticks.store(now, Ordering::Relaxed);
+        now
     }
 
     /// The disk of a unit has so many blocks.
     pub fn measured(&self, unit: u8, blocks: u64) {
         self.happened.measured(unit, blocks);
+    }
+
+    /// What is counted of what was written to the disk of a unit and is not flushed.
+    pub(crate) fn unflushed(&self, unit: u8) -> Option<&UnflushedTally> {
+        self.happened.unflushed(unit)
     }
 
     /// Counts an event.
@@ -341,7 +322,7 @@ impl Meters {
         for _ in 0..self.units {
             units.push(Sheet {
                 counts: Counts::none(),
-                waiting: 0,
+                waiting: Leaving::none(),
                 is_ahead: false,
             })?;
         }
@@ -392,6 +373,27 @@ impl Meters {
             live.push(Arc::try_clone(meter)?)?;
         }
         Ok((live, counts))
+    }
+
+    /// Keeps what is counted until now, so long after the beginning of 1970.
+    pub fn keep<R: Wait>(&self, rt: &R, now: Duration) {
+        let mut book = self.book.lock(rt);
+        let Book {
+            live,
+            ended,
+            recent,
+            ..
+        } = &mut *book;
+        recent.begin(now.as_secs());
+        recent.add_pairs(ended);
+        for meter in live {
+            recent.add(&meter.shown.lock(rt).units);
+        }
+    }
+
+    /// What was kept of late, the oldest first.
+    pub fn recent<R: Wait>(&self, rt: &R, alloc: Global) -> Result<Vec<Point>, AllocError> {
+        self.book.lock(rt).recent.seen(alloc)
     }
 
     /// What there is to see, at this time of the clock that never goes back.

@@ -446,6 +446,7 @@ pub fn spell(line: &mut String, event: &Event<'_>) -> Result<(), AllocError>
             path(line, by)?;
             why(line, *end)
         }
+        Event::ConnectionsEnded(count) => counted(line, "event=connections_ended count=", *count),
         Event::GroupsSet(unit, group, first, second, whom) => {
             set(line, *unit, *group, *first, *second)?;
             by(line, whom)

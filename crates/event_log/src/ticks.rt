@@ -1,7 +1,8 @@
-//! A thread that looks at the clock, so that who counts need not.
+//! A thread that looks at the clock, so that who counts need not, and keeps now and then what is counted.
 
 use crate::log::Log;
 use crate::meters::Meters;
+use crate::recent::STEP;
 use std::alloc::Global;
 use std::sync::{Arc, Wait};
 use std::thread::{Builder, JoinHandle, Threads};
@@ -14,9 +15,18 @@ const BETWEEN: u64 = 100;
 /// What the stack of its thread takes.
 const STACK: usize = 64 * 1024;
 
+// Looks at the clock on and on, and keeps what is counted at the first look and then each STEP seconds.
 fn look_on<R: Wait + Clock>(rt: &R, meters: &Meters) {
+    let step = Duration::from_secs(STEP).as_micros() as u64;
+    let mut due = meters.tick(rt);
     for _ in rt.forever() {
-        meters.tick(rt);
+        let now = meters.tick(rt);
+        if now >= due {
+            meters.keep(rt, rt.since_1970().unwrap_or(Duration::ZERO));
+            due = now
+                .saturating_sub(now.saturating_sub(due) % step)
+                .saturating_add(step);
+        }
         thread::sleep(rt, Duration::from_millis(BETWEEN));
     }
 }

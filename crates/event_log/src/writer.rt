@@ -16,6 +16,9 @@ use std::{mem, thread};
 /// What the writer's stack takes.
 const STACK: usize = 256 * 1024;
 
+/// So many seconds the writer sleeps at most: then it looks whether there is something to sum up.
+const SLEEP: u64 = 60;
+
 /// So many milliseconds at most does the end of a program wait for its last lines.
 const PATIENCE: u64 = 1000;
 
@@ -72,16 +75,20 @@ pub fn put_line(lines: &mut String, when: Stamp, event: &Event<'_>) -> Result<()
     lines.push('\n')
 }
 
-// Takes the lines that wait, and behind them how many were dropped: how many that are.
-fn take<R: Wait + Clock>(rt: &R, shared: &Shared, lines: &mut String) -> u64 {
-    let now = Stamp::now(rt);
+// Takes the lines that wait, and behind them what sums up others, and how many were dropped: how many that are.
+fn take<R: Wait + Clock>(rt: &R, shared: &Shared, lines: &mut String, is_last: bool) -> u64 {
+    let since = rt.since_1970().unwrap_or(Duration::ZERO);
+    let now = Stamp::of(since);
     lines.clear();
-    let untold = {
+    let (untold, ended) = {
         let mut waiting = shared.waiting.lock(rt);
         let untold = waiting.give_time(now);
         mem::swap(&mut waiting.lines, lines);
-        untold
+        (untold, waiting.strangers.sum(since.as_secs(), is_last))
     };
+    if ended != 0 {
+        let _ = put_line(lines, now, &Event::ConnectionsEnded(ended));
+    }
     let dropped = shared
         .dropped
         .swap(0, Ordering::SeqCst)
@@ -95,9 +102,9 @@ fn take<R: Wait + Clock>(rt: &R, shared: &Shared, lines: &mut String) -> u64 {
 // Writes what is told, until the log is closed.
 fn write_on<R: Wait + Clock, P: Page>(rt: &R, shared: &Shared, page: &P, writer: &mut Writer) {
     for _ in rt.forever() {
-        shared.bell.park(rt);
+        shared.bell.park_timeout(rt, Duration::from_secs(SLEEP));
         let is_last = shared.end.load(Ordering::SeqCst) != 0;
-        let dropped = take(rt, shared, &mut writer.lines);
+        let dropped = take(rt, shared, &mut writer.lines, is_last);
         if !writer.lines.is_empty() {
             writer.open(page);
             let is_written = writer.write();

@@ -78,6 +78,10 @@ fn events_are_spelled(rt: HostRuntime) -> Result<(), Fail> {
              why=protocol_error reason=0x9 words=\"Invalid PDU field\" opcode=0x1 task=0x77",
         ),
         (
+            Event::ConnectionsEnded(8),
+            "event=connections_ended count=8",
+        ),
+        (
             Event::GroupsSet(1, 2, Access::Unavailable, Access::Optimized, By::Console),
             "event=groups_set unit=1 owner=2 states=3,0 by=console",
         ),

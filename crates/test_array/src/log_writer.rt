@@ -1,9 +1,10 @@
 //! The thread that writes the lines of a log: how many lines were lost is told behind the next that are written.
 use crate::ends::must;
-use event_log::{Event, Log, Page, close, start};
+use event_log::{Event, Log, Page, Path, Why, close, start};
 use std::alloc::Global;
 use std::fs::{self, File, OpenFile};
 use std::io;
+use std::net::{Ipv4Addr, SocketAddrV4};
 use std::process::Abort;
 use std::rt::Files;
 use std::sync::atomic::{AtomicBool, AtomicU64, Ordering};
@@ -12,6 +13,9 @@ use std::thread::Parker;
 use std::time::Clock;
 
 const PATH: &str = "lines";
+
+/// Where the lines of another test are.
+const OTHER: &str = "others";
 
 /// What a page and its test share.
 #[derive(Drop)]
@@ -108,4 +112,70 @@ fn lines_that_were_lost_are_told(rt: HostRuntime) {
         &text,
     );
     must(&rt, events.next().is_none(), "more", &text);
+}
+
+/// A page that is there.
+#[derive(Drop)]
+struct There<R: Files<File = File> + Drop> {
+    rt: R,
+}
+
+impl<R: Files<File = File> + Drop> Page for There<R> {
+    fn open(&self) -> Option<File> {
+        File::options()
+            .append(true)
+            .create(true)
+            .open(&self.rt, OTHER)
+            .ok()
+    }
+}
+
+// How many lines of a text end so.
+fn count_of(text: &str, end: &str) -> usize {
+    text.lines().filter(|line| line.ends_with(end)).count()
+}
+
+// How a connection comes.
+fn path() -> Path {
+    Path {
+        from: SocketAddrV4::new(Ipv4Addr::LOCALHOST, 41022),
+        portal: SocketAddrV4::new(Ipv4Addr::LOCALHOST, 3260),
+        tag: 1,
+    }
+}
+
+// Tells of so many connections that end without a login, in less than a minute: what is written once the log ends.
+fn written_of<R: Files<File = File> + Wait + Clock + Abort>(
+    rt: &R,
+    alloc: Global,
+    log: &Log,
+    ends: u32,
+) -> String {
+    for _ in 0..ends {
+        log.tell(rt, &Event::ConnectionEnded(path(), Why::Closed));
+    }
+    log.tell(rt, &Event::Stopping);
+    close(rt, log);
+    let file = File::open(rt, OTHER).expect(rt, "lines");
+    let text = io::read_to_string(alloc, file).expect(rt, "lines");
+    fs::remove_file(rt, OTHER).expect(rt, "lines");
+    text
+}
+
+// What strangers do fills no disk.
+#[test]
+fn ends_without_a_login_take_few_lines(rt: HostRuntime) {
+    let alloc = rt.alloc();
+    let _ = fs::remove_file(&rt, OTHER);
+    let page = There {
+        rt: rt.clone().expect(&rt, "memory"),
+    };
+    let log = Log::new(alloc).expect(&rt, "memory");
+    start::<HostRuntime, There<HostRuntime>>(&rt, alloc, &log, page).expect(&rt, "a thread");
+    let text = written_of(&rt, alloc, &log, 1000);
+    let alone = count_of(&text, " tag=1 why=connection_closed");
+    let together = count_of(&text, " event=connections_ended count=968");
+    let all = text.lines().count();
+    let seen = (alone, together, all);
+    must(&rt, seen == (32, 1, 34), "lines", &seen);
 }

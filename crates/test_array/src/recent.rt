@@ -1,0 +1,150 @@
+//! What the array keeps of its last ten minutes.
+use crate::ends::must;
+use event_log::{
+    Counts, Ended, Hand, Initiator, Leaving, Meters, Operation, POINTS, Path, Point, STEP, Served,
+    SessionType, Visit,
+};
+use std::alloc::{AllocError, Global};
+use std::net::{Ipv4Addr, SocketAddrV4};
+use std::sync::Wait;
+use std::test::*;
+use std::time::{Clock, Duration};
+
+// A session by this controller.
+fn visit(alloc: Global, tag: u16) -> Result<Visit, AllocError> {
+    let who = Initiator {
+        name: b"iqn.a",
+        isid: 1,
+    };
+    let portal = SocketAddrV4::new(Ipv4Addr::LOCALHOST, 3260);
+    let path = Path {
+        from: portal,
+        portal,
+        tag,
+    };
+    Visit::new(alloc, who, path, 1, SessionType::Normal, Duration::ZERO)
+}
+
+// A session's command at a unit reads or writes so many bytes, and its answer leaves.
+fn serve(
+    rt: &impl Clock,
+    hand: &mut Hand,
+    unit: u8,
+    operation: Operation,
+    read: u64,
+    written: u64,
+) {
+    hand.came(rt);
+    hand.begin(unit);
+    let served = Served {
+        operation,
+        ended: Ended::Good,
+        read,
+        written,
+        flushes: false,
+    };
+    hand.end(unit, Some(served));
+    hand.leave(rt);
+}
+
+// Of each point its moment, and of each unit the commands and bytes that were read, and those that were written.
+fn text_of(alloc: Global, points: &[Point]) -> Result<String, AllocError> {
+    let mut text = String::new(alloc);
+    for point in points {
+        let at = point.at;
+        write!(text, "{at}:")?;
+        for unit in &point.units {
+            let (reads, writes) = (unit.reads, unit.writes);
+            let (read, written) = (unit.read_bytes, unit.written_bytes);
+            write!(text, " {reads} {read} {writes} {written},")?;
+        }
+        text.push('\n')?;
+    }
+    Ok(text)
+}
+
+// Two sessions, by both controllers, at two units; one of them ends.
+fn kept<R: Wait + Clock>(rt: &R, alloc: Global) -> Result<String, AllocError> {
+    let meters = Meters::new(alloc, 2)?;
+    meters.keep(rt, Duration::from_secs(5));
+    let mut first = meters.enter(rt, alloc, visit(alloc, 1)?)?;
+    let mut second = meters.enter(rt, alloc, visit(alloc, 2)?)?;
+    serve(rt, &mut first, 1, Operation::Read, 512, 0);
+    serve(rt, &mut second, 1, Operation::Read, 1024, 0);
+    meters.keep(rt, Duration::from_secs(15));
+    serve(rt, &mut first, 0, Operation::Write, 0, 4096);
+    meters.leave(rt, first);
+    serve(rt, &mut second, 0, Operation::CompareAndWrite, 0, 512);
+    serve(rt, &mut second, 0, Operation::SynchronizeCache, 0, 0);
+    meters.keep(rt, Duration::from_secs(25));
+    text_of(alloc, &meters.recent(rt, alloc)?)
+}
+
+const KEPT: &str = "5: 0 0 0 0, 0 0 0 0,
+15: 0 0 0 0, 2 1536 0 0,
+25: 0 0 2 4608, 2 1536 0 0,
+";
+
+#[test]
+fn a_point_has_what_was_counted_until_its_moment(rt: HostRuntime) -> Result<(), Fail> {
+    let text = kept(&rt, rt.alloc())?;
+    must(&rt, text.as_str() == KEPT, KEPT, &text);
+    Ok(())
+}
+
+// How many points there are behind so many, the moment of the first, and whether each other one is a step behind that before it.
+fn shape<R: Wait>(rt: &R, alloc: Global, count: u64) -> Result<(usize, u64, bool), AllocError> {
+    let meters = Meters::new(alloc, 1)?;
+    for place in 0..count {
+        meters.keep(rt, Duration::from_secs(STEP.saturating_mul(place)));
+    }
+    let points = meters.recent(rt, alloc)?;
+    let first = points.first().map_or(0, |point| point.at);
+    let mut is_whole = true;
+    for (place, point) in points.iter().enumerate() {
+        let wanted = first.saturating_add(STEP.saturating_mul(place as u64));
+        is_whole = is_whole && point.at == wanted;
+    }
+    Ok((points.len(), first, is_whole))
+}
+
+#[test]
+fn ten_minutes_are_kept_the_oldest_first(rt: HostRuntime) -> Result<(), Fail> {
+    let rows = [
+        (0, 0, 0),
+        (1, 1, 0),
+        (60, 60, 0),
+        (61, 61, 0),
+        (62, 61, 10),
+        (183, 61, 1220),
+    ];
+    must(&rt, POINTS == 61 && STEP == 10, "ten minutes", &POINTS);
+    for (count, points, first) in &rows {
+        let seen = shape(&rt, rt.alloc(), *count)?;
+        must(
+            &rt,
+            seen == (*points, *first, true),
+            "points",
+            &(count, seen),
+        );
+    }
+    Ok(())
+}
+
+#[test]
+fn times_are_counted_by_what_was_asked_for(rt: HostRuntime) {
+    let (mut counts, mut leaving) = (Counts::none(), Leaving::none());
+    for operation in [
+        Operation::Read,
+        Operation::Read,
+        Operation::Write,
+        Operation::CompareAndWrite,
+        Operation::Write,
+        Operation::SynchronizeCache,
+    ] {
+        leaving.add(operation);
+    }
+    counts.take(7, leaving);
+    let seen = (counts.micros, counts.read_micros, counts.write_micros);
+    must(&rt, seen == (42, 14, 21), "microseconds", &seen);
+}
