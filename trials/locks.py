@@ -15,7 +15,6 @@ TAKEN_BY = (
     ("deadline::watch", "hangs"),
     ("deadline::blocks", "device's thread"),
     ("deadline::prepared", "preparer's thread"),
-    ("deadline::hatch", "errand"),
     ("deadline::ahead", "read ahead"),
     ("disk_files::flushes::Flushes::handle", "flush handle"),
     ("disk_files::flushes::Flushes::flush", "flushed"),
@@ -33,9 +32,9 @@ TAKEN_BY = (
 # What may be waited for while this is held. Who only tries, and goes on without, can keep nobody waiting in a ring, and is not looked at.
 WHILE_HELD = {
     "logins": {"unit", "sessions"},
-    "unit": {"device's thread", "errand", "hangs"},
-    "device's thread": {"errand", "hangs"},
-    "preparer's thread": {"errand", "hangs"},
+    "unit": {"device's thread", "hangs"},
+    "device's thread": {"hangs"},
+    "preparer's thread": {"hangs"},
     "flush handle": {"flushed"},
     "book": {"counts"},
 }

@@ -1,5 +1,5 @@
 -- What the thread of a device answers: that the device was called so, and how that ended.
-use Rattle.std.specs.Prelude.{◌≡◌, ◌<◌, ◌⊎◌, ℕ, ◌/◌, Bool, IsTrue, List, length}
+use Rattle.std.specs.Prelude.{◌≡◌, ◌<◌, ◌⊎◌, ℕ, ◌/◌, Bool, IsTrue, List, [], length}
 use Rattle.block_file.specs.declared.blocks.TheConstants.{BLOCK_LENGTH}
 use Rattle.block_file.specs.Cut.{run_of}
 use Rattle.block_file.specs.Disk.{range_bytes, written, Only}
@@ -33,12 +33,6 @@ pub record HasWritten {B : Type 0} (claims : Bool) (contents : B → List (List 
   pub after : B
   pub wrote : IsTrue claims → contents after ≡ written (contents before) first (run_of bytes)
 
--- so many bytes were written, from this block on
-pub record HasWrittenSome {B : Type 0} (claims : Bool) (contents : B → List (List ℕ)) (first : ℕ) (count : ℕ) : Type 0 where
-  pub bytes : List ℕ
-  pub many : length bytes ≡ count
-  pub written : HasWritten claims contents first bytes
-
 -- a device was flushed: a crash leaves what it had
 pub record HasFlushed {B : Type 0} (claims : Bool) (contents : B → List (List ℕ)) (may_hold : B → ℕ → List ℕ → Type 0) : Type 0
   where
@@ -59,3 +53,10 @@ HasAnswered claims contents may_hold opened (Read first) bytes = HasRead claims 
 HasAnswered claims contents may_hold opened (Write first) bytes = HasWritten claims contents first bytes
 HasAnswered claims contents may_hold opened Flush bytes = HasFlushed claims contents may_hold
 HasAnswered claims contents may_hold opened Open bytes = HasOpened opened
+
+-- the bytes that a thread is given to write
+abbrev pub given_to : Wanted → List ℕ → List ℕ
+given_to (Write first) bytes = bytes
+given_to (Read first) bytes = []
+given_to Flush bytes = []
+given_to Open bytes = []

@@ -1,3 +1,4 @@
 pub mod Answers
 pub mod Back
 pub mod Counted
+pub mod Handing

@@ -2,7 +2,8 @@
 ghost use Rattle.std.specs.Prelude.{◌≡◌, ◌+◌, IfOk, IfSome, Some, false};
 ghost use Rattle.std.specs.Arc.{arc_value};
 
-use crate::hatch::{Asked, Hatch, Looks, OVER, Runner};
+use crate::handing::{Asked, AskingEnd, ends};
+use crate::hatch::{Looks, Runner};
 use crate::watch::Watch;
 use event_log::Call;
 use std::alloc::Global;
@@ -29,7 +30,7 @@ pub(crate) struct Turn {
 /// One who asks, by a thread of its own. The errand is the right to ask: whoever has waited for one in vain has none until it comes back.
 pub(crate) struct Asker<R: Wait + Clock + Drop, E: Asked> {
     rt: R,
-    hatch: Arc<Hatch<E>, Global>,
+    end: AskingEnd<E>,
     watch: Arc<Watch, Global>,
     looks: Looks,
     errand: Option<E>,
@@ -41,17 +42,16 @@ pub(crate) struct Asker<R: Wait + Clock + Drop, E: Asked> {
 
 impl<R: Wait + Clock + Drop, E: Asked> Drop for Asker<R, E> {
     fn drop(self) {
-        self.hatch.turn.store(OVER, Ordering::Release);
-        self.hatch.turn.wake_all();
         let Self {
             rt: _,
-            hatch: _,
+            mut end,
             watch: _,
             looks: _,
             errand: _,
             asked: _,
             is_late: _,
         } = self;
+        end.close();
     }
 }
 
@@ -83,8 +83,7 @@ impl<R: Threads + Wait + Clock + Clone + Drop + Send + 'static, E: Asked + Send 
     ) -> io::Result<Asker<R, E>>
         ensures { IfOk result (λ a. arc_value a.watch ≡ arc_value watch.now) }
     {
-        let hatch = Arc::new(alloc, Hatch::new())?;
-        let theirs = Arc::try_clone(&hatch)?;
+        let (end, mut theirs) = ends(alloc)?;
         let (watch, watched) = (Arc::try_clone(watch)?, Arc::try_clone(watch)?);
         let (mine, other) = (rt.clone()?, rt.clone()?);
         let mut runner = runner;
@@ -92,7 +91,7 @@ impl<R: Threads + Wait + Clock + Clone + Drop + Send + 'static, E: Asked + Send 
         let _thread: JoinHandle<()> = Builder::new().stack_size(STACK).spawn(rt, work)?;
         Ok(Asker {
             rt: mine,
-            hatch,
+            end,
             watch,
             looks: Looks::up_to(FOR_ANSWERS),
             errand: Some(errand),
@@ -110,7 +109,7 @@ impl<R: Wait + Clock + Drop, E: Asked> Asker<R, E> {
 
     /// Whether the thread still has something to do behind an answer.
     pub(crate) fn goes_on(&self) -> bool {
-        self.hatch.goes_on.load(Ordering::Acquire)
+        self.end.hatch.goes_on.load(Ordering::Acquire)
     }
 
     /// Takes the errand in hand, to say what is asked, and the right to ask it under the next number. None: a call of the file hangs.
@@ -124,7 +123,7 @@ impl<R: Wait + Clock + Drop, E: Asked> Asker<R, E> {
         let errand = match self.errand.take() {
             Some(errand) => errand,
             None => {
-                let late = self.hatch.take_late(&self.rt)?;
+                let late = self.end.take()?;
                 self.is_late = true;
                 late
             }
@@ -149,41 +148,42 @@ impl<R: Wait + Clock + Drop, E: Asked> Asker<R, E> {
     }
 
     // Whether it is answered in time, while one sleeps. Else it hangs, from now on until it comes back.
-    fn is_done(&self, serial: u64, call: Call) -> bool {
+    fn is_done(&mut self, serial: u64, call: Call) -> bool
+        ensures known { self.new.end.seat.me ≡ self.old.end.seat.me }
+        ensures same { (self.new.errand ≡ self.old.errand) × (self.new.asked ≡ self.old.asked) }
+    {
         self.watch.sleep();
         if self
-            .hatch
+            .end
             .is_answered_in_time(&self.rt, &self.watch, serial, call)
         {
             return true;
         }
         self.watch.hang(&self.rt, call);
-        if self.hatch.give_up() {
+        if self.end.give_up() {
             return false;
         }
         self.watch.come_back(&self.rt, call);
         true
     }
 
-    /// Asks, by the right to it, and waits for the answer to this and to nothing before. None: it has not come in time; then there is no
-    /// errand until it comes.
+    /// Asks, by the right to it, and waits for the answer to this and to nothing before: it has this number, and what it was given to be
+    /// written is what was given now. None: it has not come in time; then there is no errand until it comes.
     pub(crate) fn ask(&mut self, turn: Turn, errand: E) -> Option<E>
         requires { E.serial errand ≡ turn.serial }
-        ensures answered { IfSome result (λ e. E.serial e ≡ turn.serial) }
+        ensures answered { IfSome result (λ e. (E.serial e ≡ E.serial errand) × (E.given e ≡ E.given errand)) }
         ensures same { (self.new.errand ≡ self.old.errand) × (self.new.asked ≡ self.old.asked) }
     {
+        if !self.end.holds() {
+            return None;
+        }
         let (serial, call) = (turn.serial, errand.call());
         let looks = self.looks.next();
-        let is_soon = self.hatch.is_done_soon(&self.rt, errand, looks);
+        let is_soon = self.end.is_done_soon(errand, looks);
         self.looks.learn(looks, is_soon);
         if !is_soon && !self.is_done(serial, call) {
             return None;
         }
-        let answered = self.hatch.take(&self.rt)?;
-        if answered.serial() == serial {
-            Some(answered)
-        } else {
-            None
-        }
+        self.end.take()
     }
 }

@@ -5,7 +5,7 @@ ghost use Rattle.std.proofs.Common.{arith};
 ghost use Rattle.block_file.specs.Cut.{IsRun};
 ghost use Rattle.block_file.specs.Failures.{last_count};
 ghost use Rattle.deadline.specs.Counted.{CountsRead, CountsWrite};
-ghost use Rattle.deadline.specs.Answers.{HasAnswered, HasFlushed, HasOpened, HasRead, HasWrittenSome, WereGiven};
+ghost use Rattle.deadline.specs.Answers.{HasAnswered, HasFlushed, HasOpened, HasRead, HasWritten, WereGiven};
 
 use crate::asker::{Asker, Turn};
 use crate::errand::{DeviceRunner, Errand, Wanted};
@@ -158,19 +158,22 @@ fn write_by<R: Wait + Clock + Drop, B: Blocks, O: Opener<B>>(
     first: u32,
     bytes: &[u8],
 ) -> bool
-    ensures answered { IsTrue result → HasWrittenSome B.claims B.contents first (length bytes.now) }
+    ensures answered { IsTrue result → HasWritten B.claims B.contents first bytes.now }
     ensures rises { writes.old ≤ writes.new }
 {
-    let wanted = Wanted::Write(first);
     let Some((turn, errand)) = take_by(asker, writes) else {
         return false;
     };
+    let (errand, has_room) = errand.with_bytes(turn.serial, first, bytes);
+    if !has_room {
+        asker.keep(errand);
+        return false;
+    }
     asker.watch().writes_bytes(bytes.len());
-    let errand = errand.with_bytes(turn.serial, wanted, bytes);
     let Some(answered) = asker.ask(turn, errand) else {
         return false;
     };
-    let is_written = answered.has_done_all(wanted, bytes.len());
+    let is_written = answered.has_written(first);
     asker.keep(answered);
     is_written
 }
@@ -329,7 +332,7 @@ impl<R: Wait + Clock + Drop, B: Blocks, O: Opener<B>> Blocks for Deadlined<R, B,
     fn write_run(&mut self, first: u32, bytes: &[u8]) -> Result<(), DeviceFailed>
         requires { IsRun self.old.count first (length bytes.now) }
         ensures size { self.new.count ≡ self.old.count }
-        ensures answered { OnOk result (HasWrittenSome B.claims B.contents first (length bytes.now)) }
+        ensures answered { OnOk result (HasWritten B.claims B.contents first bytes.now) }
         ensures counted { CountsWrite self.old.failed_reads self.old.failed_writes self.new.failed_reads self.new.failed_writes
             result }
         ensures written { min (self.old.writes + 1) last_count ≤ self.new.writes }

@@ -1,9 +1,10 @@
 //! What the thread of a device is asked, and what it does.
 ghost use Rattle.std.specs.Prelude.{◌≡◌, true, length, IsTrue};
 ghost use Rattle.block_file.specs.Cut.{IsRun};
-ghost use Rattle.deadline.specs.Answers.{HasAnswered, HasFlushed, HasOpened, HasRead, HasWritten};
+ghost use Rattle.deadline.specs.Answers.{HasAnswered, HasFlushed, HasOpened, HasRead, HasWritten, given_to};
 
-use crate::hatch::{Asked, Runner};
+use crate::handing::Asked;
+use crate::hatch::Runner;
 use block_file::{BLOCK_LENGTH, Blocks, Opener};
 use event_log::Call;
 use std::alloc::{AllocError, Global};
@@ -71,20 +72,22 @@ impl<B: Blocks, O: Opener<B>> Errand<B, O> {
         }
     }
 
-    /// Asks for this, with these bytes. Their room may be wanting.
-    pub(crate) fn with_bytes(self, serial: u64, wanted: Wanted, part: &[u8]) -> Errand<B, O>
-        ensures { result.serial ≡ serial }
+    /// Asks for a write from this block on of these bytes; whether there is room for them.
+    pub(crate) fn with_bytes(self, serial: u64, first: u32, part: &[u8]) -> (Errand<B, O>, bool)
+        ensures serial { result.0.serial ≡ serial }
+        ensures given { IsTrue result.1 → given_to result.0.wanted result.0.bytes ≡ part.now }
     {
         let mut bytes = self.bytes;
         bytes.clear();
-        let _ = bytes.extend_from_slice(part);
-        Errand {
+        let has_room = bytes.extend_from_slice(part).is_ok();
+        let errand = Errand {
             serial,
-            wanted,
+            wanted: Wanted::Write(first),
             bytes,
             is_done: false,
             of: PhantomData,
-        }
+        };
+        (errand, has_room)
     }
 
     /// Asks for this, with these bytes in place of its own, which it gives.
@@ -109,10 +112,20 @@ impl<B: Blocks, O: Opener<B>> Errand<B, O> {
 
     /// Whether this was wanted, and was done.
     pub(crate) fn has_done(&self, wanted: Wanted) -> bool
-        ensures { IsTrue result
+        ensures wanted { IsTrue result → self.now.wanted ≡ wanted }
+        ensures answered { IsTrue result
             → HasAnswered B.claims B.contents B.may_hold O.opened wanted self.now.bytes }
     {
         self.is_done && self.wanted == wanted
+    }
+
+    /// Whether the bytes that it was given were written, from this block on.
+    #[tactic(auto, using(crate::proofs::Given::given_written))]
+    pub(crate) fn has_written(&self, first: u32) -> bool
+        ensures { IsTrue result
+            → HasWritten B.claims B.contents first (given_to self.now.wanted self.now.bytes) }
+    {
+        self.has_done(Wanted::Write(first))
     }
 
     /// Whether this was wanted, and was done with so many bytes.
@@ -138,6 +151,8 @@ impl<B: Blocks, O: Opener<B>> Errand<B, O> {
 
 impl<B: Blocks, O: Opener<B>> Asked for Errand<B, O> {
     ghost serial = { λ e. e.serial };
+
+    ghost given = { λ e. given_to e.wanted e.bytes };
 
     fn serial(&self) -> u64 {
         self.serial
@@ -203,7 +218,8 @@ impl<B: Blocks, O: Opener<B>> DeviceRunner<B, O> {
 
     // Does what is wanted: whether it went well.
     fn does(&mut self, wanted: Wanted, bytes: &mut Vec<u8>) -> bool
-        ensures { IsTrue result → HasAnswered B.claims B.contents B.may_hold O.opened wanted bytes.new.items }
+        ensures answered { IsTrue result → HasAnswered B.claims B.contents B.may_hold O.opened wanted bytes.new.items }
+        ensures given { given_to wanted bytes.new.items ≡ given_to wanted bytes.old.items }
     {
         match wanted {
             Wanted::Read(first) => self.read(first, bytes.as_mut_slice()),

@@ -1,16 +1,15 @@
-//! Where one who asks and a thread hand an errand to each other.
-ghost use Rattle.std.specs.Prelude.{◌≡◌, ◌+◌, ℕ, IfOk, IfSome, Some};
-ghost use Rattle.std.specs.Arc.{arc_value};
+//! How one who asks and a thread wait for each other at the ends of a hatch.
+ghost use Rattle.std.specs.Prelude.{◌≡◌, true};
 
+use crate::handing::{
+    ANSWERED, ASKED, AWAITED, Asked, AskingEnd, Hatch, LATE, OVER, RESTING, ServingEnd,
+};
 use crate::spent::Spent;
 use crate::watch::Watch;
-use crossbeam_utils::CachePadded;
 use event_log::Call;
 use std::hint::spin_loop;
-use std::io;
-use std::sync::atomic::{AtomicBool, AtomicU64, Ordering};
-use std::sync::{Arc, Mutex, Wait};
-use std::thread::{Builder, JoinHandle, Threads};
+use std::sync::Wait;
+use std::sync::atomic::Ordering;
 use std::time::{Clock, Duration};
 
 /// After it has looked in vain so often in a row, a side sleeps at once so often, and then tries again.
@@ -18,39 +17,11 @@ const IN_VAIN: u32 = 3;
 
 const AT_ONCE: u32 = 64;
 
-/// Whose turn it is: the errand is asked, and who asked looks for the answer.
-const ASKED: u64 = 1;
-
-/// It is asked, and who asked sleeps.
-const AWAITED: u64 = 2;
-
-/// It is answered, or was never asked.
-const ANSWERED: u64 = 3;
-
-/// The same, and the thread sleeps.
-const RESTING: u64 = 4;
-
-/// Nobody asks any more.
-pub(crate) const OVER: u64 = 5;
-
-/// It is asked, and who asked has given it up.
-const LATE: u64 = 6;
-
-/// What a thread is asked and gives back.
-pub(crate) trait Asked: Drop {
-    /// The number of its asking, among those of whoever asked.
-    ghost serial: { Self → ℕ };
-
-    fn serial(&self) -> u64
-        ensures { result ≡ serial self.now };
-
-    /// Which call it is.
-    fn call(&self) -> Call;
-}
-
 /// What a thread does with an errand.
-pub(crate) trait Runner<E> {
-    fn run(&mut self, errand: E) -> E;
+pub(crate) trait Runner<E: Asked> {
+    /// The answer has the number of its asking, and what was given to be written is what was.
+    fn run(&mut self, errand: E) -> E
+        ensures { (E.serial result ≡ E.serial errand) × (E.given result ≡ E.given errand) };
 
     /// Whether it has something to do behind its answer, for which nobody waits but who asks it next.
     fn has_more(&self) -> bool {
@@ -59,28 +30,6 @@ pub(crate) trait Runner<E> {
 
     /// Does that.
     fn go_on(&mut self) {}
-}
-
-/// The hatch between the two.
-pub(crate) struct Hatch<E> {
-    // In a cache line of its own: one side looks at it while the other one has the errand.
-    pub(crate) turn: CachePadded<AtomicU64>,
-    errand: CachePadded<Mutex<Option<E>>>,
-    // Whether the thread has something to do behind its answer.
-    pub(crate) goes_on: AtomicBool,
-    // The number of the errand at which the thread is, or was last.
-    begun: AtomicU64,
-}
-
-impl<E: Drop> Drop for Hatch<E> {
-    fn drop(self) {
-        let Self {
-            turn: _,
-            errand: _,
-            goes_on: _,
-            begun: _,
-        } = self;
-    }
 }
 
 // How often one side looks for the other one before it sleeps. Where that has no processor it comes too late, and to look only keeps
@@ -132,27 +81,10 @@ pub(crate) fn left<R: Clock>(rt: &R, begun: Duration, patience: Duration) -> Opt
 }
 
 impl<E: Asked> Hatch<E> {
-    /// Nothing is asked yet.
-    pub(crate) fn new() -> Hatch<E> {
-        Hatch {
-            turn: CachePadded::new(AtomicU64::new(ANSWERED)),
-            errand: CachePadded::new(Mutex::new(None)),
-            goes_on: AtomicBool::new(false),
-            begun: AtomicU64::new(0),
-        }
-    }
-
-    // Makes the turn another one, where it still is this one.
-    fn exchange(&self, from: u64, to: u64) {
-        let _ = self
-            .turn
-            .compare_exchange(from, to, Ordering::AcqRel, Ordering::Acquire);
-    }
-
     // Whether it is answered while one looks so often.
     fn is_answered_soon(&self, looks: u32) -> bool {
         for _ in 0..looks {
-            match self.turn.load(Ordering::Acquire) {
+            match self.turn() {
                 ASKED | AWAITED => spin_loop(),
                 _ => return true,
             }
@@ -165,26 +97,44 @@ impl<E: Asked> Hatch<E> {
         self.begun.load(Ordering::Acquire) == serial || self.goes_on.load(Ordering::Acquire)
     }
 
+    // Whether something is asked while the thread looks so often; none where it is not known yet.
+    fn is_asked_soon(&self, looks: u32) -> Option<bool> {
+        for _ in 0..looks {
+            match self.turn() {
+                ASKED | AWAITED | LATE => return Some(true),
+                OVER => return Some(false),
+                _ => spin_loop(),
+            }
+        }
+        None
+    }
+}
+
+impl<E: Asked> AskingEnd<E> {
     // Whether this errand, which is this call, is answered in its time, asleep. A clock that cannot be read ends the wait.
     pub(crate) fn is_answered_in_time<R: Wait + Clock>(
-        &self,
+        &mut self,
         rt: &R,
         watch: &Watch,
         serial: u64,
         call: Call,
-    ) -> bool {
+    ) -> bool
+        ensures { self.new.seat.me ≡ self.old.seat.me }
+    {
         let Some(mut spent) = Spent::none(rt, watch) else {
             return false;
         };
         for _ in rt.forever() {
-            match self.turn.load(Ordering::Acquire) {
-                ASKED => self.exchange(ASKED, AWAITED),
+            match self.hatch.turn() {
+                ASKED => {
+                    self.change(ASKED, AWAITED);
+                }
                 AWAITED => {
-                    let is_at_it = self.is_at(serial);
+                    let is_at_it = self.hatch.is_at(serial);
                     if spent.is_all(watch, call) {
                         return false;
                     }
-                    self.turn.park_timeout(rt, AWAITED as u32, spent.nap());
+                    self.hatch.sleep_for(rt, AWAITED as u32, spent.nap());
                     if !spent.go_on(rt, watch, call, is_at_it) {
                         return false;
                     }
@@ -196,86 +146,88 @@ impl<E: Asked> Hatch<E> {
     }
 
     // Gives an errand up: whether it was not answered yet. Its thread then tells the watch when it comes back.
-    pub(crate) fn give_up(&self) -> bool {
-        self.exchange(ASKED, AWAITED);
-        self.turn
-            .compare_exchange(AWAITED, LATE, Ordering::AcqRel, Ordering::Acquire)
-            .is_ok()
+    pub(crate) fn give_up(&mut self) -> bool
+        ensures { self.new.seat.me ≡ self.old.seat.me }
+    {
+        self.change(ASKED, AWAITED);
+        self.change(AWAITED, LATE)
     }
 
-    // Gives an errand that was given up, where it has come back.
-    pub(crate) fn take_late<R: Wait>(&self, rt: &R) -> Option<E> {
-        match self.turn.load(Ordering::Acquire) {
-            ANSWERED | RESTING => self.take(rt),
-            _ => None,
+    // Hands an errand to the thread, and looks for the answer so often; whether it has come by then.
+    pub(crate) fn is_done_soon(&mut self, errand: E, looks: u32) -> bool
+        requires { self.old.holds ≡ true }
+        ensures known { (self.new.seat.me.0.serial ≡ E.serial errand) × (self.new.seat.me.0.given ≡ E.given errand) }
+    {
+        if self.hand_over(errand) {
+            self.hatch.wake();
         }
+        self.hatch.is_answered_soon(looks)
     }
+}
 
-    // Hands an errand to the thread, and looks for it so often; whether it is answered by then.
-    pub(crate) fn is_done_soon<R: Wait>(&self, rt: &R, errand: E, looks: u32) -> bool {
-        *self.errand.lock(rt) = Some(errand);
-        if self.turn.swap(ASKED, Ordering::AcqRel) == RESTING {
-            self.turn.wake_one();
-        }
-        self.is_answered_soon(looks)
-    }
-
-    // Gives an errand that is answered.
-    pub(crate) fn take<R: Wait>(&self, rt: &R) -> Option<E> {
-        self.errand.lock(rt).take()
-    }
-
-    // Whether something is asked while the thread looks so often; none where it is not known yet.
-    fn is_asked_soon(&self, looks: u32) -> Option<bool> {
-        for _ in 0..looks {
-            match self.turn.load(Ordering::Acquire) {
-                ASKED | AWAITED | LATE => return Some(true),
-                OVER => return Some(false),
-                _ => spin_loop(),
-            }
-        }
-        None
-    }
-
+impl<E: Asked> ServingEnd<E> {
     // Waits until something is asked. False: nobody asks any more.
-    fn is_asked<R: Wait>(&self, rt: &R, looks: &mut Looks) -> bool {
+    fn is_asked<R: Wait>(&mut self, rt: &R, looks: &mut Looks) -> bool {
         let most = looks.next();
-        let soon = self.is_asked_soon(most);
+        let soon = self.hatch.is_asked_soon(most);
         looks.learn(most, soon.is_some());
         if let Some(is_asked) = soon {
             return is_asked;
         }
         for _ in rt.forever() {
-            match self.turn.load(Ordering::Acquire) {
+            match self.hatch.turn() {
                 ASKED | AWAITED | LATE => return true,
                 OVER => return false,
-                RESTING => self.turn.park(rt, RESTING as u32),
-                seen => self.exchange(seen, RESTING),
+                RESTING => self.hatch.sleep(rt, RESTING as u32),
+                _ => self.change(ANSWERED, RESTING),
             }
         }
         unreachable!()
     }
 
     // Hands an errand back. The call that was given up has come back with it.
-    fn answer<R: Wait + Clock>(&self, rt: &R, watch: &Watch, errand: E) {
+    fn answer<R: Wait + Clock>(&mut self, rt: &R, watch: &Watch, errand: E)
+        requires holds { self.old.holds ≡ true }
+        requires same { (E.serial errand ≡ self.old.seat.me.0.serial) × (E.given errand ≡ self.old.seat.me.0.given) }
+    {
         let call = errand.call();
-        *self.errand.lock(rt) = Some(errand);
-        match self.turn.swap(ANSWERED, Ordering::AcqRel) {
-            AWAITED => self.turn.wake_one(),
-            OVER => self.turn.store(OVER, Ordering::Release),
+        match self.hand_back(errand) {
+            AWAITED => self.hatch.wake(),
+            OVER => self.change(ANSWERED, OVER),
             LATE => watch.come_back(rt, call),
             _ => {}
         }
     }
 
-    // Whether what is asked was given up before the thread came to it.
-    fn is_late(&self) -> bool {
-        self.turn.load(Ordering::Acquire) == LATE
+    // Runs this errand, and hands it back. One that was given up before the thread came to it is not run.
+    fn run<R: Wait + Clock, W: Runner<E>>(
+        &mut self,
+        rt: &R,
+        watch: &Watch,
+        runner: &mut W,
+        errand: E,
+    )
+        requires holds { self.old.holds ≡ true }
+        requires same { (E.serial errand ≡ self.old.seat.me.0.serial) × (E.given errand ≡ self.old.seat.me.0.given) }
+    {
+        if self.hatch.turn() == LATE {
+            self.answer(rt, watch, errand);
+            return;
+        }
+        self.hatch.begun.store(errand.serial(), Ordering::Release);
+        let done = runner.run(errand);
+        let has_more = runner.has_more();
+        self.hatch.goes_on.store(has_more, Ordering::Release);
+        self.answer(rt, watch, done);
+        if has_more {
+            runner.go_on();
+            self.hatch.goes_on.store(false, Ordering::Release);
+        }
     }
 
     // Runs what is asked, until nobody asks any more.
     pub(crate) fn serve<R: Wait + Clock, W: Runner<E>>(
-        &self,
+        &mut self,
         rt: &R,
         watch: &Watch,
         runner: &mut W,
@@ -286,20 +238,8 @@ impl<E: Asked> Hatch<E> {
             if !self.is_asked(rt, &mut looks) {
                 break;
             }
-            if let Some(errand) = self.take(rt) {
-                if self.is_late() {
-                    self.answer(rt, watch, errand);
-                    continue;
-                }
-                self.begun.store(errand.serial(), Ordering::Release);
-                let done = runner.run(errand);
-                let has_more = runner.has_more();
-                self.goes_on.store(has_more, Ordering::Release);
-                self.answer(rt, watch, done);
-                if has_more {
-                    runner.go_on();
-                    self.goes_on.store(false, Ordering::Release);
-                }
+            if let Some(errand) = self.take() {
+                self.run(rt, watch, runner, errand);
             }
         }
     }

@@ -8,6 +8,7 @@ mod ahead;
 mod asker;
 mod blocks;
 mod errand;
+mod handing;
 mod hatch;
 mod opener;
 mod prepared;

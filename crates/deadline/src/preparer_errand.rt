@@ -1,10 +1,11 @@
 //! What a thread of a preparer is asked, and what it does.
-ghost use Rattle.std.specs.Prelude.{◌≡◌, true, IsTrue};
+ghost use Rattle.std.specs.Prelude.{◌≡◌, [], true, IsTrue};
 ghost use Rattle.std.specs.Arc.{arc_value};
 ghost use Rattle.deadline.specs.Back.{had_come_back};
 
 use crate::ahead::{Ahead, Hint, HintKind};
-use crate::hatch::{Asked, Runner, left};
+use crate::handing::Asked;
+use crate::hatch::{Runner, left};
 use crate::watch::Watch;
 use block_file::BLOCK_LENGTH;
 use disk_preparer::{Beside, BlockMemory, Node, Preparer};
@@ -101,6 +102,8 @@ impl<P: Preparer> PreparerErrand<P> {
 
 impl<P: Preparer> Asked for PreparerErrand<P> {
     ghost serial = { λ f. f.2 };
+
+    ghost given = { λ f. [] };
 
     fn serial(&self) -> u64 {
         self.serial

@@ -43,7 +43,7 @@ impl Spent {
         self.time >= watch.patience_for(call)
     }
 
-    /// One has slept; the thread was at the call, or was not. Where another flush has come back meanwhile, a flush has its time anew: it
+    /// One has slept; the thread was at the call, or was not. Where another flush has come back meanwhile, one that flushes has its time anew: it
     /// may have waited for that one. False: the clock cannot be read.
     pub(crate) fn go_on<R: Clock>(
         &mut self,
@@ -61,7 +61,7 @@ impl Spent {
             self.time = self.time.saturating_add(nap);
         }
         let flushes = watch.flushes();
-        if matches!(call, Call::Flush) && flushes != self.flushes {
+        if matches!(call, Call::Flush | Call::Open) && flushes != self.flushes {
             self.time = Duration::ZERO;
         }
         self.flushes = flushes;

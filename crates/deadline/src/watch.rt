@@ -89,16 +89,16 @@ impl Watch {
         self.patience
     }
 
-    /// How long this one may take. A flush has what its bytes need, too.
+    /// How long this one may take. A flush has what its bytes need, too, and so has an open, which flushes by the handle that goes.
     pub(crate) fn patience_for(&self, call: Call) -> Duration {
         match call {
-            Call::Flush => {
+            Call::Flush | Call::Open => {
                 let written = self.written.load(Ordering::Acquire);
                 let left = written.saturating_sub(self.flushed.load(Ordering::Acquire));
                 let time = Duration::from_millis(left.min(MOST_BYTES) / BYTES_A_MILLISECOND);
                 self.patience.saturating_add(time)
             }
-            Call::Open | Call::Seek | Call::Read | Call::Write => self.patience,
+            Call::Seek | Call::Read | Call::Write => self.patience,
         }
     }
 
