@@ -1,5 +1,5 @@
 -- What the device of a file counts.
-use Rattle.std.specs.Prelude.{ℕ, ◌+◌, false, min}
+use Rattle.std.specs.Prelude.{◌≡◌, ◌⊎◌, ℕ, ◌+◌, true, false, min}
 use Rattle.block_file.specs.Failures.{last_count}
 use Rattle.disk_files.specs.declared.tally.Tally.{Tally}
 
@@ -20,3 +20,11 @@ failures_with refused c = min (c.failed_reads + (c.failed_writes + refused)) las
 -- it was opened once more; the failures go over, and that a flush failed
 abbrev pub once_more_opened : Tally → Tally
 once_more_opened c = record c { opened = min (c.opened + 1) last_count }
+
+-- a flush of it has failed
+abbrev pub lost : Tally → Tally
+lost c = record c { is_lost = true }
+
+-- it was opened once more; a flush that was made for that may have failed
+abbrev pub IsOpenedAnew : Tally → Tally → Type 0
+IsOpenedAnew old new = (new ≡ once_more_opened old) ⊎ (new ≡ once_more_opened (lost old))

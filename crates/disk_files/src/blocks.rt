@@ -9,7 +9,7 @@ ghost use Rattle.block_file.specs.Cut.{run_of, IsRun};
 ghost use Rattle.block_file.specs.Disk.{written, range_bytes, Between, NoMore, Adds, Only};
 ghost use Rattle.block_file.specs.Failures.{Counts, last_count};
 ghost use Rattle.disk_files.specs.BackingLaws.{as_many, as_wide, lies_before};
-ghost use Rattle.disk_files.specs.Tally.{none, all_failures, once_more_opened};
+ghost use Rattle.disk_files.specs.Tally.{none, lost, all_failures, IsOpenedAnew};
 ghost use Rattle.disk_files.specs.Lasting.{IsSettled};
 ghost use Rattle.disk_files.specs.Lengths.{IsLengthFault};
 ghost use Rattle.disk_files.specs.System.{is_named};
@@ -175,6 +175,18 @@ impl<F: BackingFile> FileBlocks<F> {
         }
     }
 
+    // A flush has failed: so does each later one, of the device and beside it.
+    fn lose(&mut self)
+        ensures lost { self.new.tally ≡ lost self.old.tally }
+        ensures same { (self.new.file ≡ self.old.file) × (self.new.count ≡ self.old.count) × (self.new.flushes ≡ self.old.flushes)
+            × (self.new.writes ≡ self.old.writes) }
+    {
+        self.tally.is_lost = true;
+        if let Some(flushes) = &self.flushes {
+            flushes.lose();
+        }
+    }
+
     // Makes what was written last, where no flush of the device has failed: nothing is to be done where the preparer did it, and
     // nothing to be told where it has told already.
     fn make_last(&mut self) -> Result<(), DeviceFailed>
@@ -213,8 +225,12 @@ impl<F: BackingFile> FileBlocks<F> {
 impl<F: LastingFile> FileBlocks<F> {
     /// Takes a handle through which the same file was opened anew, as the other controller's opener does. Of another file, or of one that
     /// has become shorter, the old handle stays. The counts of failures go over, and that a flush failed.
+    ///
+    /// The system tells an error once by each handle, so the file is flushed before the old one goes. Where that fails, a flush failed.
     pub fn renew(&mut self, file: F) -> Result<(), DeviceFailed>
-        ensures ok { OnOk result (self.new.tally ≡ once_more_opened self.old.tally) }
+        ensures ok { OnOk result (IsOpenedAnew self.old.tally self.new.tally) }
+        ensures flushed { OnOk result ((self.new.tally.is_lost ≡ true)
+            ⊎ IsSettled (F.lasts (F.node self.old.file)) self.old.writes.count) }
         ensures size { self.new.count ≡ self.old.count }
         ensures file { OnOk result (self.new.file ≡ file) }
         ensures node { F.node self.new.file ≡ F.node self.old.file }
@@ -229,6 +245,9 @@ impl<F: LastingFile> FileBlocks<F> {
         if let Err(error) = reaches(&file, self.count) {
             self.tell(Call::Seek, 0, 0, error);
             return Err(DeviceFailed);
+        }
+        if self.tally.is_lost || self.make_last().is_err() {
+            self.lose();
         }
         self.file = file;
         self.tally.opened = self.tally.opened.saturating_add(1);
@@ -433,10 +452,7 @@ impl<F: BackingFile> Blocks for FileBlocks<F> {
         if !self.tally.is_lost && self.make_last().is_ok() {
             return Ok(());
         }
-        self.tally.is_lost = true;
-        if let Some(flushes) = &self.flushes {
-            flushes.lose();
-        }
+        self.lose();
         failed(&mut self.tally.failed_writes)
     }
 }

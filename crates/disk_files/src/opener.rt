@@ -1,8 +1,10 @@
 //! The same file, opened again.
-ghost use Rattle.std.specs.Prelude.{◌≡◌, ◌+◌, min, false, OnOk, OnErr};
+ghost use Rattle.std.specs.Prelude.{◌≡◌, ◌⊎◌, ◌+◌, min, true, false, OnOk, OnErr};
 ghost use Rattle.std.proofs.Common.{arith};
 ghost use Rattle.block_file.specs.Failures.{last_count};
-ghost use Rattle.disk_files.specs.Tally.{once_more_opened};
+ghost use Rattle.disk_files.specs.Lasting.{IsSettled};
+ghost use Rattle.disk_files.specs.System.{lasts};
+ghost use Rattle.disk_files.specs.Tally.{IsOpenedAnew};
 
 use crate::FileBlocks;
 use crate::system::{SystemFile, number_of};
@@ -15,7 +17,7 @@ use std::rt::Files;
 /// Opens the file of a disk again by its name, for the other controller.
 ///
 /// What is there by then has to be the same file, and no shorter: else the open fails, and the old handle stays.
-/// The counts of failures go over to the new handle, and that a flush failed.
+/// The counts of failures go over to the new handle, and that a flush failed. The file is flushed first.
 #[derive(Drop)]
 pub struct FileOpener<R: Files<File = File> + Drop> {
     rt: R,
@@ -36,7 +38,8 @@ impl<R: Files<File = File> + Drop> FileOpener<R> {
 
     // Opens the file again and puts its handle into the device.
     fn renew(&self, device: &mut FileBlocks<SystemFile>) -> Result<(), DeviceFailed>
-        ensures ok { OnOk result (device.new.tally ≡ once_more_opened device.old.tally) }
+        ensures ok { OnOk result (IsOpenedAnew device.old.tally device.new.tally) }
+        ensures flushed { OnOk result ((device.new.tally.is_lost ≡ true) ⊎ IsSettled (lasts device.old.file.node) device.old.writes.count) }
         ensures node { device.new.file.node ≡ device.old.file.node }
         ensures size { device.new.count ≡ device.old.count }
         ensures err { OnErr result (device.new ≡ device.old) }
@@ -63,7 +66,8 @@ impl<R: Files<File = File> + Drop> FileOpener<R> {
 impl<R: Files<File = File> + Drop> Opener<FileBlocks<SystemFile>> for FileOpener<R> {
     ghost claims = { false };
 
-    ghost opened = { λ old new. (new.tally ≡ once_more_opened old.tally) × (new.file.node ≡ old.file.node) };
+    ghost opened = { λ old new. IsOpenedAnew old.tally new.tally × (new.file.node ≡ old.file.node)
+        × ((new.tally.is_lost ≡ true) ⊎ IsSettled (lasts old.file.node) old.writes.count) };
 
     ghost opens_failed = { λ o. min o.failed last_count };
 

@@ -33,6 +33,19 @@ flush failed
 open
 flush failed
 
+an open flushes by the handle that goes, and where that fails a flush has failed; 0; no handle
+write
+open
+flush failed
+open
+flush failed
+
+so it has for those beside the device; 0; never
+write
+open
+beside lost
+flush failed
+
 a flush beside the device that failed is told, by the first handle and by the second; never; 1
 flush done
 beside done

@@ -153,6 +153,14 @@ length disk.reg.new3; none
 registrations disk; APTPL 11
 length disk.reg.new3; none
 
+a link to one that is not there is left as it is
+symlink none disk.reg
+registrations disk; File(NotThere)
+length none; none
+length disk.reg.new; none
+put none "text"
+holds disk.reg "text"
+
 where all names are taken none is made
 put disk.reg.new "1"
 link disk.reg.new disk.reg.new1
