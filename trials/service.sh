@@ -220,7 +220,9 @@ DeviceAllow=/dev/disk/by-id/x rw
 IPAddressDeny=
 IPAddressDeny=any
 IPAddressAllow=
-IPAddressAllow=localhost 10.0.5.0/24 10.0.7.9/32
+IPAddressAllow=localhost
+IPAddressAllow=10.0.5.0/24
+IPAddressAllow=10.0.7.9/32
 0'
 is 'no disk and no host where none is said' "$(OPTIONS='--host 192.0.2.77' prepared one | grep -v =$)" 'User=arrayd-one
 IPAddressDeny=any
