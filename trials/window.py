@@ -13,6 +13,7 @@ import contextlib
 import errno
 import http.server
 import json
+import math
 import os
 import re
 import shutil
@@ -598,12 +599,12 @@ def processor_time(pid):
 
 
 def curl_times(at, path, count):
-    """How long each of so many requests takes, sorted, in seconds."""
+    """How long each of so many requests takes, sorted, in seconds; for ever, where it has no answer."""
     times = []
     for _ in range(count):
         done = subprocess.run(["curl", "-s", "-o", "/dev/null", "-w", "%{time_total}", f"http://127.0.0.1:{at}{path}"],
-                              capture_output=True, text=True, check=True)
-        times.append(float(done.stdout))
+                              capture_output=True, text=True, check=False)
+        times.append(float(done.stdout) if done.returncode == 0 else math.inf)
         time.sleep(0.1)
     return sorted(times)
 
@@ -652,9 +653,8 @@ def soon(folder):
             thread.join()
         idle = max(idle, curl_times(port, "/", 10)[5])
         before = processor_time(array.process.pid)
-        for _ in range(50):
-            get("/metrics")
-        taken = (processor_time(array.process.pid) - before) / 50
+        curl_times(AT, "/metrics", 20)
+        taken = (processor_time(array.process.pid) - before) / 20
         print(f"      median {1000 * times[10]:.1f} ms, longest {1000 * times[-1]:.1f} ms, {1000 * taken:.1f} ms of a processor; an answer of "
               f"nothing {1000 * idle:.1f} ms")
         is_so("the program's share within 50 ms", taken < 0.05, True)
