@@ -217,16 +217,16 @@ is 'each disk is allowed by its name, and the hosts that are said' \
 DeviceAllow=
 DeviceAllow=/dev/vg0/lun0 rw
 DeviceAllow=/dev/disk/by-id/x rw
-IPAddressDeny=
-IPAddressDeny=any
 IPAddressAllow=
 IPAddressAllow=localhost
 IPAddressAllow=10.0.5.0/24
 IPAddressAllow=10.0.7.9/32
+IPAddressDeny=
+IPAddressDeny=any
 0'
 is 'no disk and no host where none is said' "$(OPTIONS='--host 192.0.2.77' prepared one | grep -v =$)" 'User=arrayd-one
-IPAddressDeny=any
 IPAddressAllow=localhost
+IPAddressDeny=any
 0'
 is 'where its networks are asked for, as the system has them' "$(OPTIONS='--host 0.0.0.0' prepared one | grep -c 'IPAddressAllow=localhost')" 1
 is 'a host that is none is refused' "$(HOSTS='10.0.5.0/24 host7' prepared one)" "arrayd-prepare: HOSTS: 'host7' does not appear to be an IPv4 or IPv6 network
