@@ -29,7 +29,7 @@ header { display: flex; flex-wrap: wrap; gap: 4px 18px; align-items: baseline; }
 .wire { border-top: 3px dashed var(--soft); } .wire.best { border-top: 5px solid currentColor; }
 .wire.none { border-top: 3px dotted var(--bad); }
 .pair { margin-top: 6px; table-layout: fixed; width: 100%; min-width: 0; } .pair th, .pair td { white-space: normal; }
-.pair td, .pair thead th { text-align: right; } .pair thead td { width: 24%; }
+.pair td, .pair thead th { text-align: right; overflow-wrap: anywhere; } .pair thead td { width: 24%; }
 .facts { font-size: .88rem; margin-top: 6px; border-top: 1px solid var(--line); padding-top: 6px; }
 #problems li.amber { border-color: var(--two); } .stale main { opacity: .45; } .warn { color: var(--two); font-weight: 700; }
 .ends { display: flex; justify-content: space-between; } .ends, .reading, .marks, .keys { font-size: .8rem; }
