@@ -22,7 +22,7 @@ from reservations import REGISTER, REGISTER_AND_IGNORE
 # How a history is searched: with which choices first (0: by when they ended), and with how many states at most. An unlucky choice early
 # on may cost them all, so the search begins anew some times. A history that no search decides is told as one that was not decided.
 FEW, MOST = 2_000, 30_000
-SEARCHES = ((0, FEW), (1, FEW), (2, FEW), (0, MOST), *((seed, MOST) for seed in range(3, 11)))
+SEARCHES = ((0, FEW), (1, FEW), (2, FEW), (0, MOST), *((seed, MOST) for seed in range(3, 6)))
 
 Order = collections.namedtuple("Order", "is_found is_decided placed left states unit")
 
