@@ -55,7 +55,7 @@ def say(line):
 
 
 class Gateway:
-    """A mount of its own, and an array over it. A unit's registration file is an image beside it, so it moves along."""
+    """A mount of its own, and an array over it. What the array keeps beside a disk are images beside it, so they move along."""
 
     def __init__(self, cluster, folder, options):
         self.cluster, self.folder = cluster, folder
@@ -103,19 +103,20 @@ class Trial:
         say("the cluster is up: a monitor, a manager, three OSDs over memory")
         for image in IMAGES:
             self.cluster.create(image, "8M", *SMALL.get(image, ()))
-            self.cluster.rbd("import", self.registration_file(), f"{ceph_cluster.POOL}/{image}.reg")
+        self.give_files(IMAGES)
         self.gateway = self.another()
         self.gateway.serve()
         self.hosts.log_in(self.gateway.port)
         self.hosts.begin()
 
-    def registration_file(self):
-        """A registration file of nothing, as the array makes it beside a disk in a folder of this machine."""
-        disk = os.path.join(self.folder, "empty")
-        if not os.path.exists(disk + ".reg"):
-            with Array([made(disk, 16384)], free_port()) as array:
-                array.quit()
-        return disk + ".reg"
+    def give_files(self, images):
+        """The files that an array makes beside disks in a folder of this machine, as images beside these: rbd-fuse makes none."""
+        disks = [made(os.path.join(self.folder, image), 16384) for image in images]
+        with Array(disks, free_port()) as array:
+            array.quit()
+        for image, disk in zip(images, disks):
+            for file in (".reg", ".unit"):
+                self.cluster.rbd("import", disk + file, f"{ceph_cluster.POOL}/{image}{file}")
 
     def another(self):
         folder = os.path.join(self.folder, f"gateway.{len(self.gateways) + 1}")
@@ -282,9 +283,13 @@ class Trial:
         old.lose()
 
 
+class Lost(Wrong):
+    """What was promised is not so."""
+
+
 def must_be_whole(wrong):
     if wrong:
-        raise Wrong(f"{len(wrong)} things are lost:\n" + "\n".join(wrong[:20]))
+        raise Lost(f"{len(wrong)} things are lost:\n" + "\n".join(wrong[:20]))
 
 
 # ---- what can be asked for
@@ -315,7 +320,7 @@ def finds(trial, what):
     try:
         trial.begin()
         trial.gateway_cut_off()
-    except Wrong as wrong:
+    except Lost as wrong:
         say(f"{what}: found. {wrong}"[:700])
     else:
         raise Wrong(f"{what}, and nothing was found to be lost")
@@ -333,45 +338,70 @@ def not_blocklisted(folder, _):
 
 # ---- how fast it is
 
-SIZE, SECONDS, RUNS = 256 << 20, 8, 3
+SIZE, SECONDS, RUNS = 256 << 20, 3, 3
+MOST = ("--time_based", f"--runtime={SECONDS}", "--randrepeat=0", "--output-format=json")
+
+
+def fio(way, length, *words, **more):
+    """How many commands end a second."""
+    said = ceph_cluster.told(["fio", "--name=fast", f"--rw=rand{way}", f"--bs={length}", *MOST, *words], **more)
+    return sum(job[way]["iops"] for job in json.loads(said[said.index("{"):])["jobs"])
 
 
 def by_engine(trial, way, length, depth):
-    words = ["fio", "--name=engine", "--ioengine=rbd", "--clientname=admin", "--pool=rbd", "--rbdname=fast", f"--rw=rand{way}",
-             f"--bs={length}", f"--iodepth={depth}", f"--runtime={SECONDS}", "--time_based", "--randrepeat=0", "--output-format=json"]
-    said = ceph_cluster.told(words, env={**os.environ, "CEPH_CONF": trial.conf}, cwd=trial.folder)
-    return json.loads(said[said.index("{"):])["jobs"][0][way]["iops"]
+    words = ("--ioengine=rbd", "--clientname=admin", "--pool=rbd", "--rbdname=fast", f"--iodepth={depth}")
+    return fio(way, length, *words, env={**os.environ, "CEPH_CONF": trial.conf}, cwd=trial.folder)
 
 
-def by_host(program, port, way, length, depth):
+def by_threads(file, way, length, depth):
+    """What the mount itself gives to so many threads, each of which waits for its command."""
+    return fio(way, length, "--ioengine=psync", f"--filename={file}", f"--size={SIZE}", "--thread", f"--numjobs={depth}",
+               "--group_reporting")
+
+
+def by_host(program, file, port, way, length, depth):
+    # of what was read or written before, nothing is in this machine's memory
+    with open(file, "rb") as image:
+        os.fsync(image.fileno())
+        os.posix_fadvise(image.fileno(), 0, 0, os.POSIX_FADV_DONTNEED)
     words = [program, f"{HOST}:{port}", TARGET, "0", way, str(length), str(depth), "1", str(SECONDS), str(SIZE)]
     return float(ceph_cluster.told(words).split()[0].replace(",", ""))
 
 
 def speed(folder, _):
-    """Reads and writes that are done when every copy has them: no cache of the library, and none of the kernel's pages."""
+    """The image by its library, by threads over a mount past the page cache, and by a host through the array over a mount."""
     trial = Trial(folder)
     try:
         trial.cluster.start()
         trial.cluster.create("fast", str(SIZE >> 20))
-        trial.cluster.rbd("import", trial.registration_file(), f"{ceph_cluster.POOL}/fast.reg")
-        mount = Mount(trial.cluster, os.path.join(folder, "fast"), more=("-o", "direct_io"))
-        mount.wait("fast")
-        trial.conf, program = mount.conf, client(folder)
-        array = Array([mount.path("fast")], free_port())
-        ceph_cluster.told(["dd", "if=/dev/urandom", f"of={mount.path('fast')}", "bs=1M", f"count={SIZE >> 20}", "conv=notrunc"])
-        for way in ("read", "write"):
+        trial.give_files(["fast"])
+        mounts = [Mount(trial.cluster, os.path.join(folder, name), more=more)
+                  for name, more in (("served", ()), ("direct", ("-o", "direct_io")))]
+        for mount in mounts:
+            mount.wait("fast")
+        served, direct = (mount.path("fast") for mount in mounts)
+        trial.conf, program = mounts[0].conf, client(folder)
+        array = Array([served], free_port())
+        ceph_cluster.told(["dd", "if=/dev/urandom", f"of={served}", "bs=1M", f"count={SIZE >> 20}", "conv=notrunc"])
+        for way in ("read", "write", "fua"):
             for length in (4096, 262144):
                 for depth in (1, 32):
-                    runs = [(by_engine(trial, way, length, depth), by_host(program, array.port, way, length, depth))
-                            for _ in range(RUNS)]
-                    engine, host = (sorted(column)[RUNS // 2] for column in zip(*runs))
-                    say(f"{way} {length >> 10} KiB, {depth} deep: engine {engine:.0f} a second, host {host:.0f}: "
-                        f"{host / engine:.2f}   {[tuple(map(round, run)) for run in runs]}")
+                    compared(trial, (served, direct), program, array.port, (way, length, depth))
         array.kill()
-        mount.kill()
+        for mount in mounts:
+            mount.kill()
     finally:
         trial.end()
+
+
+def compared(trial, files, program, port, work):
+    way, length, depth = work
+    by_fio = "read" if way == "read" else "write"
+    runs = [(by_engine(trial, by_fio, length, depth), by_threads(files[1], by_fio, length, depth),
+             by_host(program, files[0], port, way, length, depth)) for _ in range(RUNS)]
+    engine, threads, host = (sorted(column)[RUNS // 2] for column in zip(*runs))
+    say(f"{way} {length >> 10} KiB, {depth} deep: engine {engine:.0f} a second, mount {threads:.0f}, host {host:.0f}: of the engine "
+        f"{host / engine:.2f}, of the mount {host / threads:.2f}   {[tuple(map(round, run)) for run in runs]}")
 
 
 def main():

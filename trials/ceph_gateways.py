@@ -1,10 +1,10 @@
 #!/usr/bin/env python3
-"""Two gateways of units on Ceph, of which one serves: two emulated machines that map the images by the kernel's `rbd`, and a real
-cluster on this machine (trials/ceph_cluster.py). A network of their own joins them, which is gone with the script. Hosts write,
-flush, write with FUA, compare and write, register with APTPL, reserve and fence. Five times the gateway that serves is killed. Once
-its cable is pulled, and put back when the other one serves; once it is only taken for lost, and works on. Each time the other one
-puts it on Ceph's blocklist, takes over by the steps of docs/MANY_MACHINES.md, and then: every block whose flush was GOOD is there,
-every registration with APTPL, the fenced host stays out, and the old gateway, where it lives, cannot write.
+"""Two gateways of units on Ceph, of which one serves: two machines of user-mode Linux that map the images by the kernel's `rbd`,
+and a real cluster on this machine (trials/ceph_cluster.py). A network of their own joins them, which is gone with the script.
+Hosts write, flush, write with FUA, compare and write, register with APTPL, reserve and fence. Five times the gateway that serves
+is killed. Once its cable is pulled, and put back when the other one serves; once it is only taken for lost, and works on. Each
+time the other one puts it on Ceph's blocklist, takes over by the steps of docs/MANY_MACHINES.md, and then: every block whose flush
+was GOOD is there, every registration with APTPL, the fenced host stays out, and the old gateway, where it lives, cannot write.
 
 usage: trials/ceph_gateways.py build FOLDER             makes what they boot: some minutes, root, the network
        trials/ceph_gateways.py FOLDER [--fast]          the seven takeovers; --fast is one of each kind
@@ -12,11 +12,10 @@ usage: trials/ceph_gateways.py build FOLDER             makes what they boot: so
        trials/ceph_gateways.py plan FOLDER              what Pacemaker would do by the page's configuration; starts nothing
 
 Ends with status 1 where it is not so. The program is ./arrayd, or what ARRAYD names, as it was when FOLDER was made. Wants root,
-Debian's packages ceph-mon ceph-osd ceph-mgr ceph-common qemu-system-x86 qemu-utils, 4 GiB of memory. Not part of the gate.
+Debian's packages ceph-mon ceph-osd ceph-mgr ceph-common user-mode-linux, 4 GiB of memory. Not part of the gate.
 """
 
 import argparse
-import concurrent.futures
 import os
 import re
 import subprocess
@@ -26,7 +25,7 @@ import time
 
 import ceph_cluster
 import ceph_gateways_build
-from ceph import must_be_whole, say
+from ceph import Lost, must_be_whole, say
 from ceph_cluster import USER, Cluster
 from ceph_gateways_build import GUEST, IMAGES, KEYRING, PLACE
 from ceph_hosts import MayFail, Witness
@@ -62,11 +61,12 @@ def plug(name, state):
 
 
 class Gateway(Machine):
-    """One of the two machines. It is switched on as it was behind a boot that was kept, since the processor is emulated."""
+    """One of the two machines: a kernel that runs as a process (user-mode Linux), which takes a moment to boot. Its disk forgets what
+    it wrote when it is switched off."""
 
     def __init__(self, name, folder, run, cluster=None):
         super().__init__(name, "plain", folder, run, None)
-        self.cluster = cluster
+        self.cluster, self.alive = cluster, None
         network("tuntap", "add", "dev", f"tap-{name}", "mode", "tap")
         network("link", "set", f"tap-{name}", "master", "gateways", "up")
 
@@ -74,24 +74,33 @@ class Gateway(Machine):
         return ADDRESS[self.name], SHELL
 
     def words(self, root):
-        console = os.path.join(self.run, f"console.{self.name}.{next(self.starts)}")
-        append = f"plain machine={self.name} console=ttyS0 panic=1 loglevel=4 mitigations=off no_timer_check tsc=unstable"
         return [
-            "setpriv", "--pdeathsig", "KILL", "nice", "-n", NICE, "qemu-system-x86_64", "-accel", "tcg,thread=multi,tb-size=128",
-            "-cpu", "max", "-smp", "1", "-m", MEMORY, "-display", "none", "-monitor", "none", "-no-reboot",
-            "-serial", f"file:{console}", "-kernel", os.path.join(self.folder, "vmlinuz"),
-            "-initrd", os.path.join(self.folder, "initrd"), "-append", append,
-            "-drive", f"file={root},format=qcow2,if=virtio,cache=unsafe",
-            "-netdev", f"tap,id=n,ifname=tap-{self.name},script=no,downscript=no",
-            "-device", f"virtio-net-pci,netdev=n,mac=52:54:00:91:00:0{'ab'.index(self.name) + 1}",
+            "setpriv", "--pdeathsig", "KILL", "nice", "-n", NICE, "unshare", "--pid", "--fork", "--kill-child=KILL", "--mount-proc",
+            "sh", "-c", '"$@" & wait', "sh", "linux.uml", f"mem={MEMORY}M", f"ubd0={root},{os.path.join(self.folder, 'root.img')}",
+            "root=/dev/ubda", "rw", "con=null", "con0=null,fd:1", f"vec0:transport=tap,ifname=tap-{self.name},depth=128,gro=1",
+            f"init={PLACE}/plain", f"machine={self.name}", "panic=1", "loglevel=4",
         ]
 
+    def start(self):
+        """Switches it on."""
+        number = next(self.starts)
+        # whoever has the other end of this pipe is a process of this machine
+        self.alive, held = os.pipe()
+        with open(os.path.join(self.run, f"console.{self.name}.{number}"), "wb") as console:
+            words = self.words(os.path.join(self.run, f"root.{self.name}.{number}"))
+            self.process = subprocess.Popen(words, stdin=subprocess.DEVNULL, stdout=console, stderr=console, start_new_session=True,
+                                            pass_fds=[held])
+        os.close(held)
+        self.give_way()
+
     def kill(self):
-        """A loss of power."""
+        """A loss of power: with the first of its processes all end."""
+        if self.process is None:
+            return
         if self.is_on():
             self.process.kill()
-        if self.process is not None:
-            self.process.wait()
+        self.process.wait()
+        os.read(self.alive, 1)
 
     def wait_up(self):
         """Waits until it is up, and a client of the cluster."""
@@ -127,12 +136,11 @@ class Pair:
         self.cluster.end()
 
     def begin(self):
-        for machine in self.machines.values():
-            machine.start()
         self.cluster.start()
         for image in IMAGES:
             self.cluster.create(image, SIZES.get(image, "8M"))
         for machine in self.machines.values():
+            machine.start()
             machine.wait_up()
         say("the cluster and both machines are up")
         links = "".join(f"ln -s /dev/rbd/rbd/{image} {image}\n" for image in IMAGES[1:])
@@ -283,7 +291,7 @@ def not_blocklisted(pair, _):
     pair.take_over(time.monotonic(), False)
     try:
         old_cannot_write(pair, old, witness)
-    except Wrong as wrong:
+    except Lost as wrong:
         say(f"with nobody blocklisted: found. {wrong}"[:700])
     else:
         raise Wrong("nobody was blocklisted, and nothing was found to be lost")
@@ -319,15 +327,6 @@ def planned(root, text):
     return active
 
 
-def boot(folder, run):
-    """Boots each machine once, and keeps what it then is."""
-    machines = [Gateway(name, folder, run) for name in "ab"]
-    with concurrent.futures.ThreadPoolExecutor(2) as lanes:
-        for booted in [lanes.submit(machine.boot) for machine in machines]:
-            booted.result()
-    say("both machines have booted")
-
-
 def main():
     words = argparse.ArgumentParser(usage=__doc__.split("usage: ")[1].split("\n\n")[0])
     words.add_argument("words", nargs="+")
@@ -339,9 +338,9 @@ def main():
         sys.exit("it wants root")
     if way == "plan":
         return plan(folder)
-    if way == "build" and INSIDE not in os.environ:
-        ceph_gateways_build.build(folder)
-    lacks = ceph_cluster.lacking("qemu-system-x86_64", "qemu-img", "ip", "unshare")
+    if way == "build":
+        return ceph_gateways_build.build(folder)
+    lacks = ceph_cluster.lacking("linux.uml", "ip", "unshare")
     if lacks or not os.path.exists(os.path.join(folder, "root.img")):
         sys.exit(f"it wants {lacks or 'a FOLDER that `trials/ceph_gateways.py build FOLDER` made'}")
     if INSIDE not in os.environ:
@@ -349,8 +348,6 @@ def main():
         os.execvp("unshare", ["unshare", "--net", sys.executable, *sys.argv])
     begin_network()
     with tempfile.TemporaryDirectory(dir=folder, ignore_cleanup_errors=True) as run:
-        if way == "build":
-            return boot(folder, run)
         pair = Pair(folder, run, way != "not_blocklisted")
         try:
             {"whole": whole, "not_blocklisted": not_blocklisted}[way](pair, words.fast)

@@ -1,20 +1,18 @@
-"""Makes what the gateways of trials/ceph_gateways.py boot: FOLDER/vmlinuz, FOLDER/initrd, and FOLDER/root.img, one Debian 12
-for both of them, with Ceph's commands, Pacemaker (which only plans there), a Linux initiator, fio, and the array. It wants
-Debian's packages debootstrap, cpio, e2fsprogs, qemu-system-x86, qemu-utils; root; the network."""
+"""Makes what the gateways of trials/ceph_gateways.py boot: FOLDER/root.img, one Debian 12 for both of them, with Ceph's commands,
+Pacemaker (which only plans there), and the array. It wants Debian's packages debootstrap, e2fsprogs; root; the network. The
+kernel with its modules is that of Debian's package user-mode-linux, where this machine has it."""
 
 import os
 import shutil
 import subprocess
 import sys
 
-from linux_host import mirror, run
+from linux_host import as_image, mirror, run
 from running import ARRAYD, TOP
-from two_machines_build import pack, place, take_modules, write
+from two_machines_build import ROOT_SIZE, place, write
 
-PACKAGES = ("udev", "kmod", "iproute2", "iputils-arping", "util-linux", "procps", "psmisc", "e2fsprogs", "socat", "python3",
-            "busybox-static", "bsdutils", "ceph-common", "pacemaker", "pacemaker-cli-utils", "corosync", "resource-agents",
-            "crmsh", "open-iscsi", "fio")
-MODULES = ("virtio_pci", "virtio_blk", "crc32c_generic", "ext4", "virtio_net", "rbd", "sd_mod", "iscsi_tcp")
+PACKAGES = ("systemd", "udev", "kmod", "iproute2", "iputils-arping", "util-linux", "procps", "psmisc", "e2fsprogs", "socat",
+            "python3", "ceph-common", "pacemaker", "pacemaker-cli-utils", "corosync", "resource-agents", "crmsh")
 GUEST = os.path.join(TOP, "trials", "ceph_gateways")
 PLACE = "/usr/libexec/two_machines"
 KEYRING = "/etc/ceph/ceph.client.array.keyring"
@@ -34,9 +32,8 @@ def build(folder):
         sys.exit("debootstrap did not make the machine: see debootstrap/debootstrap.log in FOLDER/root")
     for what in ("var/cache/apt", "var/lib/apt", *(f"usr/share/{name}" for name in ("doc", "man", "locale", "info"))):
         shutil.rmtree(os.path.join(root, what), ignore_errors=True)
-    order = take_modules(folder, root, MODULES)
     settle(root)
-    pack(folder, root, order)
+    as_image(root, os.path.join(folder, "root.img"), "-L", "root", ROOT_SIZE)
 
 
 def settle(root):

@@ -51,6 +51,7 @@ LINUX = folder("LINUX_HOST", "trials/linux_host.py build FOLDER")
 PACKAGED = folder("PACKAGE_MACHINE", "trials/package.py build FOLDER")
 GATEWAYS = folder("CEPH_GATEWAYS", "trials/ceph_gateways.py build FOLDER")
 CEPH = commands("ceph-mon", "ceph-osd", "ceph-mgr", "ceph")
+UML = commands("linux.uml")
 DOWNLOADS = "building its folder downloads Debian's packages; a run installs nothing here"
 
 TRIALS = [
@@ -98,9 +99,9 @@ TRIALS = [
           "a promised block or a fence that a loss of an OSD, of the array or of a gateway takes away", None, True),
     *(Trial(f"ceph_{way}", f"ceph.py {way}", None, [CEPH, commands("rbd-fuse")], 300, 0, "a trial that does not find what is lost", None, True)
       for way in ("lying_cache", "not_blocklisted")),
-    Trial("ceph_gateways", "ceph_gateways.py $CEPH_GATEWAYS", None, [root, CEPH, QEMU, GATEWAYS], 1800, 0,
+    Trial("ceph_gateways", "ceph_gateways.py $CEPH_GATEWAYS", None, [root, CEPH, UML, GATEWAYS], 1800, 0,
           "a takeover between gateways that forgets a fence, or a block whose flush was GOOD", DOWNLOADS, True),
-    Trial("ceph_gateways_not_blocklisted", "ceph_gateways.py not_blocklisted $CEPH_GATEWAYS", None, [root, CEPH, QEMU, GATEWAYS], 600, 0,
+    Trial("ceph_gateways_not_blocklisted", "ceph_gateways.py not_blocklisted $CEPH_GATEWAYS", None, [root, CEPH, UML, GATEWAYS], 600, 0,
           "a trial that does not find what is lost", DOWNLOADS, True),
     Trial("package", "package.py run $PACKAGE_MACHINE $ARRAYD_DEB", None, [QEMU, PACKAGED, package], 900, 0,
           "an install, an upgrade or a removal that does not do what the README says",
