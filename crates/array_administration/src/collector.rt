@@ -2,7 +2,7 @@
 
 use crate::administered::Administered;
 use command_line::Options;
-use event_log::{BOUNDS, Seen, SessionType, UnitHappenings};
+use event_log::{BOUNDS, Point, Seen, SessionType, UnitHappenings};
 use scsi_types::Group;
 use status::Row;
 use std::alloc::{AllocError, Global};
@@ -145,6 +145,11 @@ fn unit_of(
         registration_failures: window::failures(alloc, &happened.registrations)?,
         hung: happened.hung.count,
         oldest_command_micros: oldest,
+        unflushed_bytes: happened.unflushed.bytes,
+        unflushed_bound_bytes: happened.unflushed.bound,
+        waited_writes: happened.unflushed.waits,
+        waited_micros: happened.unflushed.waited_micros,
+        own_flushes: happened.unflushed.own_flushes,
         paths,
     })
 }
@@ -286,6 +291,13 @@ impl<R: Wait + Clock + Drop, A: Administered + Drop> ArrayCollector<R, A> {
 }
 
 impl<R: Wait + Clock + Drop, A: Administered + Drop> Collector for ArrayCollector<R, A> {
+    fn recent(&self, alloc: Global) -> Result<Vec<Point>, AllocError> {
+        match self.array.log().meters() {
+            Some(meters) => meters.recent(&self.rt, alloc),
+            None => Ok(Vec::new(alloc)),
+        }
+    }
+
     fn collect(&self, alloc: Global, shown: Shown) -> Result<ArrayView, AllocError> {
         let now = self.rt.monotonic().unwrap_or(self.began);
         let seen = self.seen(alloc, now)?;

@@ -282,13 +282,20 @@ fn bound<R: Files<File = File> + Net>(rt: &R, path: &str) -> io::Result<UnixList
     }
 }
 
+/// Gives a socket at this path to its owner alone, also where others came before.
+pub fn give_to_owner<R: Files<File = File>>(
+    rt: &R,
+    path: &str,
+    listener: &UnixListener,
+) -> io::Result<()> {
+    fs::set_permissions(rt, path, Permissions::from_mode(OWNER_ALONE))?;
+    turn_strangers_away(listener)
+}
+
 // The control socket at this path. Only its owner may connect.
 fn made<R: Files<File = File> + Net>(rt: &R, path: &str) -> io::Result<UnixListener> {
     let listener = bound(rt, path)?;
-    let is_its_own = fs::set_permissions(rt, path, Permissions::from_mode(OWNER_ALONE)).and_then(
-        |()| turn_strangers_away(&listener),
-    );
-    match is_its_own {
+    match give_to_owner(rt, path, &listener) {
         Ok(()) => Ok(listener),
         Err(error) => {
             remove(rt, Some(path));

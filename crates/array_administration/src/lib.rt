@@ -9,6 +9,6 @@ mod lines;
 mod sockets;
 
 pub use administered::Administered;
-pub use control::remove;
+pub use control::{give_to_owner, remove};
 pub use lines::{Operations, console, say_status};
-pub use sockets::{Administration, Sockets, answer, control_path, open};
+pub use sockets::{Administration, Sockets, answer, bind_window, control_path, open};

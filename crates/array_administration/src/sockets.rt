@@ -4,11 +4,11 @@ use crate::administered::Administered;
 use crate::collector::ArrayCollector;
 use crate::control;
 use command_line::{Fault, Options};
-use event_log::{Log, start_ticks};
+use event_log::{Event, Log, start_ticks};
 use std::alloc::Global;
 use std::fs::File;
 use std::io;
-use std::net::{Net, TcpListener};
+use std::net::{Net, SocketAddrV4, TcpListener, TcpStream};
 use std::os::unix::net::UnixListener;
 use std::random::RandomSource;
 use std::rt::Files;
@@ -33,6 +33,25 @@ pub struct Sockets {
     pub version: &'static str,
     pub http: Option<TcpListener>,
     pub control: Option<UnixListener>,
+}
+
+/// The socket of a window at this address. Of one that cannot listen the log is told as of a portal, of no controller.
+pub fn bind_window<R: Net<Listener = TcpListener, Stream = TcpStream> + Clock>(
+    rt: &R,
+    log: &Log,
+    at: SocketAddrV4,
+) -> Result<TcpListener, Fault> {
+    match TcpListener::bind(rt, at) {
+        Ok(listener) => {
+            log.tell(rt, &Event::Listening(0, at));
+            Ok(listener)
+        }
+        Err(e) => {
+            let error = u32::try_from(e.raw_os_error().unwrap_or(0)).unwrap_or(0);
+            log.tell(rt, &Event::CannotListen(0, at, error));
+            Err(Fault::CannotListenAt(at, error))
+        }
+    }
 }
 
 /// The path of the control socket, where there is to be one.

@@ -2,9 +2,9 @@
 
 use crate::settings::value_of;
 use crate::told::VERSION;
-use array::Administration;
+use array::{Administration, bind_window};
 use command_line::Fault;
-use event_log::{Event, Log, Meters};
+use event_log::{Log, Meters};
 use std::alloc::Global;
 use std::env::Env;
 use std::net::{Net, SocketAddrV4, TcpListener, TcpStream};
@@ -54,25 +54,6 @@ pub fn read<R: Env + AllocGlobal>(rt: &R) -> Result<Asked, (Fault, &'static str)
     })
 }
 
-// The socket of a window at this address. Of one that cannot listen the log is told as of a portal, of no controller.
-fn listen<R: Net<Listener = TcpListener, Stream = TcpStream> + Clock>(
-    rt: &R,
-    log: &Log,
-    at: SocketAddrV4,
-) -> Result<TcpListener, Fault> {
-    match TcpListener::bind(rt, at) {
-        Ok(listener) => {
-            log.tell(rt, &Event::Listening(0, at));
-            Ok(listener)
-        }
-        Err(e) => {
-            let error = u32::try_from(e.raw_os_error().unwrap_or(0)).unwrap_or(0);
-            log.tell(rt, &Event::CannotListen(0, at, error));
-            Err(Fault::CannotListenAt(at, error))
-        }
-    }
-}
-
 impl Asked {
     /// The path of the control socket, where there is to be one.
     pub fn control(&self) -> Option<&str> {
@@ -102,7 +83,7 @@ impl Asked {
             return Ok(None);
         }
         let http = match self.http {
-            Some(at) => Some(listen(rt, log, at)?),
+            Some(at) => Some(bind_window(rt, log, at)?),
             None => None,
         };
         let control = self.control.as_deref();

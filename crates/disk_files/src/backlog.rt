@@ -77,9 +77,6 @@ pub struct Backlog {
     writers: AtomicU64,
     writers_before: AtomicU64,
     bell: AtomicU64,
-    waits: AtomicU64,
-    waited_micros: AtomicU64,
-    flushes: AtomicU64,
 }
 
 impl Drop for Backlog {
@@ -97,9 +94,6 @@ impl Drop for Backlog {
             writers: _,
             writers_before: _,
             bell: _,
-            waits: _,
-            waited_micros: _,
-            flushes: _,
         } = self;
     }
 }
@@ -147,9 +141,6 @@ impl Backlog {
             writers: AtomicU64::new(0),
             writers_before: AtomicU64::new(0),
             bell: AtomicU64::new(QUIET),
-            waits: AtomicU64::new(0),
-            waited_micros: AtomicU64::new(0),
-            flushes: AtomicU64::new(0),
         };
         backlog.bind(free, 1);
         backlog
@@ -259,12 +250,6 @@ impl Backlog {
         self.unflushed() < most
     }
 
-    /// A session has waited for so many microseconds.
-    pub fn waited(&self, micros: u64) {
-        self.waits.fetch_add(1, Ordering::Relaxed);
-        self.waited_micros.fetch_add(micros, Ordering::Relaxed);
-    }
-
     /// A flush begins: what it flushes has ended by now.
     pub fn begin(&self, now: u64) -> Begun {
         let flushed = self.flushed.load(Ordering::Relaxed);
@@ -338,17 +323,13 @@ impl Backlog {
         self.bell.load(Ordering::Acquire) == OVER
     }
 
-    /// Waits so long until a flush is due, and counts it; whether one is.
+    /// Waits so long until a flush is due; whether one is.
     pub fn await_due<R: Wait>(&self, rt: &R, time: Duration) -> bool {
         self.bell.park_timeout(rt, QUIET as u32, time);
         let _ = self
             .bell
             .compare_exchange(DUE, QUIET, Ordering::AcqRel, Ordering::Acquire);
-        let is_due = self.is_due();
-        if is_due {
-            self.flushes.fetch_add(1, Ordering::Relaxed);
-        }
-        is_due
+        self.is_due()
     }
 
     /// How much may be unflushed.

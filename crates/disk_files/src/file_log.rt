@@ -1,6 +1,6 @@
 //! What tells the log of a file of a unit: of its calls that failed, of what goes well behind these, and once that it became longer.
 
-use event_log::{Call, Event, Log, Part, Place};
+use event_log::{Call, Event, Log, Part, Place, UnflushedTally};
 use std::sync::atomic::{AtomicBool, Ordering};
 
 /// Tells the log of calls that failed on a file of a unit, of what goes well behind these, and once that the file became longer.
@@ -62,6 +62,11 @@ impl FileLog {
     pub fn has_read(&self, first: u32, blocks: usize) {
         let count = u32::try_from(blocks).unwrap_or(u32::MAX);
         self.log.read(self.unit, self.part, Place { first, count });
+    }
+
+    /// What is counted of what was written to its unit's disk and is not flushed, where that is counted.
+    pub fn unflushed(&self) -> Option<&UnflushedTally> {
+        self.log.unflushed(self.unit)
     }
 
     /// Tells that the file has become longer, the first time.

@@ -11,11 +11,11 @@ use crate::backing::BackingFile;
 use crate::backlog::Backlog;
 use crate::file_log::FileLog;
 use crate::flushes::{FlushFault, Flushes, LastingFile};
-use crate::kernel_limits::free_to_write;
+use crate::kernel_limits::{KERNEL_FILES, KernelLimits};
 use crate::system::SystemFile;
 use block_file::BLOCK_LENGTH;
 use disk_preparer::{Account, Beside, BlockMemory, Node, PAGE_BLOCKS, Preparer};
-use event_log::Call;
+use event_log::{Call, UnflushedTally};
 use libc::{POSIX_FADV_WILLNEED, posix_fadvise};
 use std::alloc::Global;
 use std::fs::File;
@@ -87,9 +87,9 @@ pub struct FilePreparer<R: Clock + Wait + Drop, F: LastingFile> {
     slow: AtomicU64,
     // The serial of the WRITE that came last, of whatever session.
     last: AtomicU64,
-    // What was written and is not flushed, and how much the kernel let be when the file was opened.
+    // What was written and is not flushed, and how much the kernel lets be.
     backlog: Backlog,
-    free: u64,
+    limits: KernelLimits<'static>,
     ghost own: { IfSome file (λ f. f.node ≡ node) } by { Prim.hlevel props },
 }
 
@@ -104,7 +104,7 @@ impl<R: Clock + Wait + Drop, F: LastingFile + Drop> Drop for FilePreparer<R, F> 
             slow: _,
             last: _,
             backlog: _,
-            free: _,
+            limits: _,
         } = self;
     }
 }
@@ -127,7 +127,8 @@ impl<R: Clock + Wait + Files<File = File> + Drop> FilePreparer<R, SystemFile> {
         let node = blocks.node();
         let file = again(&rt, path, node);
         let flushes = shared(alloc, &rt, path, blocks);
-        let free = free_to_write(&rt);
+        let limits = KernelLimits::new(&rt, KERNEL_FILES, 0);
+        let backlog = Backlog::new(limits.free(&rt, 0));
         FilePreparer {
             rt,
             node,
@@ -136,8 +137,8 @@ impl<R: Clock + Wait + Files<File = File> + Drop> FilePreparer<R, SystemFile> {
             flushes,
             slow: AtomicU64::new(0),
             last: AtomicU64::new(0),
-            backlog: Backlog::new(free),
-            free,
+            backlog,
+            limits,
         }
     }
 }
@@ -234,6 +235,18 @@ impl<R: Clock + Wait + Drop, F: LastingFile> FilePreparer<R, F> {
         }
     }
 
+    // What is counted of what is not flushed, where it is counted.
+    fn tally(&self) -> Option<&UnflushedTally> {
+        self.file_log.as_ref()?.unflushed()
+    }
+
+    // Shows what is not flushed now.
+    fn show(&self) {
+        if let Some(tally) = self.tally() {
+            tally.stand(self.backlog.unflushed(), self.backlog.bound());
+        }
+    }
+
     // The time of the clock that never goes back, in microseconds; none where it cannot be read.
     fn micros(&self) -> Option<u64> {
         u64::try_from(self.rt.monotonic().ok()?.as_micros()).ok()
@@ -267,9 +280,12 @@ impl<R: Clock + Wait + Drop, F: LastingFile> FilePreparer<R, F> {
         let patience = u64::try_from(patience.as_micros()).unwrap_or(u64::MAX);
         self.await_room(flushes, is_heavy, begun.saturating_add(patience));
         let waited = self.micros().unwrap_or(begun).saturating_sub(begun);
-        if waited >= WAITED {
-            self.backlog.waited(waited);
+        if waited >= WAITED
+            && let Some(tally) = self.tally()
+        {
+            tally.wait(waited);
         }
+        self.show();
     }
 
     // A read of so many bytes began then, and is done.
@@ -412,7 +428,7 @@ fn read_behind(file: &SystemFile, at: u64, beside: Beside, bytes: Vec<u8>) -> Bl
     }
 }
 
-impl<R: Clock + Wait + Drop, F: LastingFile> Preparer for FilePreparer<R, F> {
+impl<R: Clock + Wait + Files<File = File> + Drop, F: LastingFile> Preparer for FilePreparer<R, F> {
     ghost may_flush = { true };
 
     ghost disk = { λ p. p.node };
@@ -509,6 +525,7 @@ impl<R: Clock + Wait + Drop, F: LastingFile> Preparer for FilePreparer<R, F> {
         let end = flushes.flush(&self.rt, self.node);
         self.backlog
             .end(begun, self.micros().unwrap_or(0), end.is_ok());
+        self.show();
         match end {
             Ok(()) => {
                 self.tell_flushed(failed_writes);
@@ -535,7 +552,9 @@ impl<R: Clock + Wait + Drop, F: LastingFile> Preparer for FilePreparer<R, F> {
             return false;
         };
         for _ in self.rt.forever() {
-            self.backlog.bind(self.free, among);
+            let free = self.limits.free(&self.rt, self.micros().unwrap_or(0));
+            self.backlog.bind(free, among);
+            self.show();
             let is_due = self
                 .backlog
                 .await_due(&self.rt, Duration::from_millis(NOW_AND_THEN));
@@ -543,6 +562,9 @@ impl<R: Clock + Wait + Drop, F: LastingFile> Preparer for FilePreparer<R, F> {
                 return false;
             }
             if is_due && !flushes.is_lost() {
+                if let Some(tally) = self.tally() {
+                    tally.flush();
+                }
                 return true;
             }
         }

@@ -3,12 +3,35 @@
 use std::fs::File;
 use std::os::unix::fs::FileExt;
 use std::rt::Files;
+use std::sync::atomic::{AtomicU64, Ordering};
 
 /// The files have so many bytes, or what is looked for stands in so many.
 const ROOM: usize = 256;
 
 /// What programs are free to write where the kernel does not say it.
 const UNKNOWN: u64 = 256 << 20;
+
+/// So many microseconds old is what it says at most, where somebody asks for it.
+const AGE: u64 = 10_000_000;
+
+/// Where the kernel says it: how much memory is available, and the limits, in bytes and as hundredths of that memory.
+pub const KERNEL_FILES: KernelFiles<'static> = KernelFiles {
+    memory: "/proc/meminfo",
+    limit: "/proc/sys/vm/dirty_bytes",
+    limit_ratio: "/proc/sys/vm/dirty_ratio",
+    background: "/proc/sys/vm/dirty_background_bytes",
+    background_ratio: "/proc/sys/vm/dirty_background_ratio",
+};
+
+/// The names of these files.
+#[derive(Clone, Copy)]
+pub struct KernelFiles<'a> {
+    pub memory: &'a str,
+    pub limit: &'a str,
+    pub limit_ratio: &'a str,
+    pub background: &'a str,
+    pub background_ratio: &'a str,
+}
 
 // The number that digits spell behind what is no digit, where there are any.
 fn number_in(bytes: &[u8]) -> Option<u64> {
@@ -37,18 +60,6 @@ fn behind<'a>(bytes: &'a [u8], word: &[u8]) -> Option<&'a [u8]> {
     bytes.get(at..)
 }
 
-// The number that the file of this name says behind this word, where it says one.
-fn said<R: Files<File = File>>(rt: &R, path: &str, word: &[u8]) -> Option<u64> {
-    let file = File::open(rt, path).ok()?;
-    let mut room = [0; ROOM];
-    let length = file.read_at(&mut room, 0).ok()?;
-    let bytes = room.get(..length)?;
-    if word.is_empty() {
-        return number_in(bytes);
-    }
-    number_in(behind(bytes, word)?)
-}
-
 // So many bytes, where they are said, else this part of the memory.
 fn bytes_of(bytes: Option<u64>, ratio: Option<u64>, memory: u64) -> Option<u64> {
     match bytes {
@@ -68,17 +79,81 @@ fn free_between(background: u64, limit: u64) -> u64 {
     background / 2 + limit / 2
 }
 
-// What it says, where it does.
-fn look<R: Files<File = File>>(rt: &R) -> Option<u64> {
-    let memory = said(rt, "/proc/meminfo", b"MemAvailable:")?.saturating_mul(1024);
-    let bytes = said(rt, "/proc/sys/vm/dirty_bytes", b"");
-    let limit = bytes_of(bytes, said(rt, "/proc/sys/vm/dirty_ratio", b""), memory)?;
-    let bytes = said(rt, "/proc/sys/vm/dirty_background_bytes", b"");
-    let ratio = said(rt, "/proc/sys/vm/dirty_background_ratio", b"");
-    Some(free_between(bytes_of(bytes, ratio, memory)?, limit))
+// What a file says first, and how many bytes that are; none where it says nothing.
+fn said<R: Files<File = File>>(rt: &R, path: &str) -> ([u8; ROOM], usize) {
+    let mut room = [0; ROOM];
+    let length = match File::open(rt, path) {
+        Ok(file) => file.read_at(&mut room, 0).unwrap_or(0),
+        Err(_) => 0,
+    };
+    (room, length)
 }
 
-/// How many bytes programs are free to write and not to flush now.
-pub(crate) fn free_to_write<R: Files<File = File>>(rt: &R) -> u64 {
-    look(rt).unwrap_or(UNKNOWN)
+// The number that a file says first.
+fn first_number<R: Files<File = File>>(rt: &R, path: &str) -> Option<u64> {
+    let (room, length) = said(rt, path);
+    number_in(room.get(..length)?)
+}
+
+// How many bytes of memory are available, by what this file says as /proc/meminfo does.
+fn available<R: Files<File = File>>(rt: &R, path: &str) -> Option<u64> {
+    let (room, length) = said(rt, path);
+    let number = number_in(behind(room.get(..length)?, b"MemAvailable:")?)?;
+    Some(number.saturating_mul(1024))
+}
+
+// What they say, where they do.
+fn look<R: Files<File = File>>(rt: &R, files: &KernelFiles<'_>) -> Option<u64> {
+    let memory = available(rt, files.memory)?;
+    let (limit, ratio) = (
+        first_number(rt, files.limit),
+        first_number(rt, files.limit_ratio),
+    );
+    let limit = bytes_of(limit, ratio, memory)?;
+    let background = first_number(rt, files.background);
+    let ratio = first_number(rt, files.background_ratio);
+    Some(free_between(bytes_of(background, ratio, memory)?, limit))
+}
+
+/// The kernel's limits, which are looked at now and then: an administrator may set others, and memory comes and goes.
+pub struct KernelLimits<'a> {
+    files: KernelFiles<'a>,
+    // When they were looked at last, in microseconds, and what programs were free to write then.
+    looked: AtomicU64,
+    free: AtomicU64,
+}
+
+impl Drop for KernelLimits<'_> {
+    fn drop(self) {
+        let Self {
+            files: _,
+            looked: _,
+            free: _,
+        } = self;
+    }
+}
+
+impl<'a> KernelLimits<'a> {
+    /// Those that these files say, looked at at this time, in microseconds.
+    pub fn new<R: Files<File = File>>(
+        rt: &R,
+        files: KernelFiles<'a>,
+        now: u64,
+    ) -> KernelLimits<'a> {
+        KernelLimits {
+            files,
+            looked: AtomicU64::new(now),
+            free: AtomicU64::new(look(rt, &files).unwrap_or(UNKNOWN)),
+        }
+    }
+
+    /// How many bytes programs are free to write and not to flush, at this time: as it was ten seconds ago at most.
+    pub fn free<R: Files<File = File>>(&self, rt: &R, now: u64) -> u64 {
+        if now.saturating_sub(self.looked.load(Ordering::Relaxed)) >= AGE {
+            self.looked.store(now, Ordering::Relaxed);
+            let free = look(rt, &self.files).unwrap_or(UNKNOWN);
+            self.free.store(free, Ordering::Relaxed);
+        }
+        self.free.load(Ordering::Relaxed)
+    }
 }

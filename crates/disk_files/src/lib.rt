@@ -31,6 +31,7 @@ pub use fault::{DiskFault, FileFault, RegistrationsFault};
 pub use file_log::FileLog;
 pub use file_preparer::FilePreparer;
 pub use flushes::{FlushFault, Flushes, LastingFile};
+pub use kernel_limits::{KERNEL_FILES, KernelFiles, KernelLimits};
 pub use named::NamedBlocks;
 pub use opener::FileOpener;
 pub use registrations::{Registrations, open_registrations};

@@ -4,6 +4,8 @@
 #![tactic(auto)]
 
 #[cfg(test)]
+mod administrators;
+#[cfg(test)]
 mod counted;
 #[cfg(test)]
 mod ends;

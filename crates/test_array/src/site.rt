@@ -15,6 +15,8 @@ pub struct Site<'a> {
     pub one: &'a str,
     /// The file of unit 1.
     pub two: &'a str,
+    /// The path of the control socket.
+    pub control: &'a str,
     /// The port of the first portal of controller 1.
     pub port: u16,
 }
@@ -25,8 +27,10 @@ pub const SIZE: u64 = 16 * 512;
 /// How many portals each controller has: as many as it may have.
 pub const PORTALS: u16 = 4;
 
-// How far those of controller 2 lie behind those of controller 1.
+// How far those of controller 2 lie behind those of controller 1, and the window behind the first one.
 const APART: u16 = 4;
+
+const WINDOW: u16 = 8;
 
 impl<'a> Site<'a> {
     /// What the words ask for that name it.
@@ -46,6 +50,11 @@ impl<'a> Site<'a> {
             portals: PORTALS,
             paths,
         })
+    }
+
+    /// Where its window is.
+    pub fn window(&self) -> SocketAddrV4 {
+        SocketAddrV4::new(Ipv4Addr::LOCALHOST, self.port.saturating_add(WINDOW))
     }
 
     /// A portal of a controller, 1 or 2.
@@ -77,7 +86,7 @@ pub fn copy<R: Files<File = File>>(
     Ok(())
 }
 
-// Whether all portals can listen that begin at this port.
+// Whether all portals can listen that begin at this port, and the window.
 fn are_free<R: Net<Listener = TcpListener, Stream = TcpStream>>(rt: &R, site: &Site<'_>) -> bool {
     for controller in &[1, 2] {
         for portal in 0..PORTALS {
@@ -86,7 +95,7 @@ fn are_free<R: Net<Listener = TcpListener, Stream = TcpStream>>(rt: &R, site: &S
             }
         }
     }
-    true
+    TcpListener::bind(rt, site.window()).is_ok()
 }
 
 /// A site for these files, with ports that nobody has. They are none of those that the system picks by itself, so that no other
@@ -96,11 +105,17 @@ pub fn free_site<'a, R: Net<Listener = TcpListener, Stream = TcpStream>>(
     process: u32,
     one: &'a str,
     two: &'a str,
+    control: &'a str,
 ) -> Result<Site<'a>, Fail> {
     for next in 0..100u32 {
         let place = process.wrapping_add(next.wrapping_mul(17)) % 1000;
         let port = u16::try_from(place.wrapping_mul(10).wrapping_add(20000)).unwrap_or(20000);
-        let site = Site { one, two, port };
+        let site = Site {
+            one,
+            two,
+            control,
+            port,
+        };
         if are_free(rt, &site) {
             return Ok(site);
         }

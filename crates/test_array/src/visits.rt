@@ -1,4 +1,5 @@
 //! The console of an array whose hosts come between two of its lines.
+use crate::administrators::find;
 use crate::ends::must;
 use crate::hosts::{come, finds};
 use crate::site::{SIZE, Site, copy};
@@ -134,6 +135,7 @@ fn receive<
     finds(rt, alloc, &visited.site)?;
     come_all(rt, alloc, visited, hosts)?;
     compare(rt, alloc, &visited.site)?;
+    find(rt, alloc, &visited.site, hosts.len())?;
     if let Some(left) = visited.left {
         copy(rt, alloc, visited.site.one, left.one)?;
         copy(rt, alloc, visited.site.two, left.two)?;

@@ -1,18 +1,20 @@
 //! The program over two files: which unit is in which file, and which portal in which group. While it still serves, the files are
 //! copied, and a second array starts over the copies: so it finds what was written and registered, though the first has not ended.
 //! This shows no loss of a cache, as what a disk has not yet written is in the copies too.
+use crate::administrators::administration;
 use crate::ends::must;
 use crate::hosts::perform;
 use crate::site::{Site, free_site, make};
 use crate::visits::{Visited, console_lines};
 use array::{open, serve};
-use event_log::Log;
+use event_log::{Log, Meters};
 use std::alloc::Global;
 use std::fs::{self, File};
 use std::io::BufReader;
 use std::net::{Net, TcpListener, TcpStream};
 use std::process::{self, Abort};
 use std::rt::Files;
+use std::sync::Arc;
 use std::test::*;
 use test_connections::{Host, filled};
 
@@ -117,13 +119,15 @@ unit 1 owner 2 states 1 0 generation 0 keys 1 type 0 entries 0
 "
 }
 
-// In a folder the files of the first array, and the copies of them.
-fn paths(alloc: Global, folder: &str) -> Result<[String; 4], Fail> {
+// In a folder the files of the first array, and the copies of them; and the control sockets of both arrays.
+fn paths(alloc: Global, folder: &str) -> Result<[String; 6], Fail> {
     Ok([
         format!(in alloc; "{folder}/one")?,
         format!(in alloc; "{folder}/two")?,
         format!(in alloc; "{folder}/one_left")?,
         format!(in alloc; "{folder}/two_left")?,
+        format!(in alloc; "{folder}/control")?,
+        format!(in alloc; "{folder}/control_left")?,
     ])
 }
 
@@ -131,14 +135,16 @@ fn paths(alloc: Global, folder: &str) -> Result<[String; 4], Fail> {
 fn site_of<'a, R: Net<Listener = TcpListener, Stream = TcpStream>>(
     rt: &R,
     process: u32,
-    paths: &'a [String; 4],
+    paths: &'a [String; 6],
     is_left: bool,
 ) -> Result<Site<'a>, Fail> {
     if is_left {
         let other = process.wrapping_add(500);
-        free_site(rt, other, paths[2].as_str(), paths[3].as_str())
+        let (one, two, control) = (&paths[2], &paths[3], &paths[5]);
+        free_site(rt, other, one.as_str(), two.as_str(), control.as_str())
     } else {
-        free_site(rt, process, paths[0].as_str(), paths[1].as_str())
+        let (one, two, control) = (&paths[0], &paths[1], &paths[4]);
+        free_site(rt, process, one.as_str(), two.as_str(), control.as_str())
     }
 }
 
@@ -174,7 +180,7 @@ fn new_folder<R: Files<File = File> + AllocGlobal>(
 fn sites<'a, R: Files<File = File> + Net<Listener = TcpListener, Stream = TcpStream>>(
     rt: &R,
     process: u32,
-    paths: &'a [String; 4],
+    paths: &'a [String; 6],
 ) -> Result<(Site<'a>, Site<'a>), Fail> {
     let site = site_of(rt, process, paths, false)?;
     let left = site_of(rt, process, paths, true)?;
@@ -215,11 +221,22 @@ fn units_have_their_files_and_portals_their_groups(rt: HostRuntime) -> Result<()
         let mut hosts = Vec::new(alloc);
         let mut said = Vec::new(alloc);
         let reader = BufReader::new(alloc, console_lines(&rt, alloc, &visited, &mut hosts))?;
-        let log = Log::off();
+        let log = Log::off().counting(Arc::new(alloc, Meters::new(alloc, 2)?)?);
+        let (window, control) = (visited.site.window(), visited.site.control);
+        let administration = Some(administration(&rt, &log, window, control)?);
         let Ok(array) = open(&rt, alloc, &log, &options) else {
             return Err("an array that is opened".into());
         };
-        let end = serve(&rt, alloc, &options, array, &log, None, reader, &mut said);
+        let end = serve(
+            &rt,
+            alloc,
+            &options,
+            array,
+            &log,
+            administration,
+            reader,
+            &mut said,
+        );
         assert!(rt; end.is_ok());
         compare(&rt, alloc, &visited, said.as_slice(), hosts.as_mut_slice())?;
     }

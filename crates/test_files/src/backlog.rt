@@ -1,11 +1,14 @@
 //! What was written to a disk and is not flushed: what counts as flushed, who waits for that, and for how long.
-use crate::ends::must;
+use crate::ends::{fail, must};
 use crate::runs::{clean, folder, path_of, sized};
-use disk_files::{Backlog, FileBlocks, FilePreparer};
+use disk_files::{Backlog, FileBlocks, FileLog, FilePreparer};
 use disk_preparer::{Account, Preparer};
+use event_log::{Log, Meters, Part, Unflushed};
+use std::alloc::Global;
 use std::fs::File;
 use std::process;
 use std::process::Abort;
+use std::sync::{Arc, Wait};
 use std::time::{Clock, Duration};
 
 /// What the kernel lets programs write.
@@ -92,6 +95,47 @@ fn waits_until_a_flush<P: Preparer>(rt: &(impl Clock + Abort), preparer: &P) {
     must(rt, !preparer.await_flush(1), "no flush is due", &());
 }
 
+// A log of which is counted what it is told of two units.
+fn counting(rt: &impl Abort, alloc: Global) -> Log {
+    let meters = Meters::new(alloc, 2).expect(rt, "memory");
+    Log::off().counting(Arc::new(alloc, meters).expect(rt, "memory"))
+}
+
+// What is counted of both.
+fn counted<R: Wait + Abort>(rt: &R, alloc: Global, log: &Log) -> (Unflushed, Unflushed) {
+    let meters = log.meters().expect(rt, "meters");
+    let seen = meters.look(rt, alloc, Duration::ZERO).expect(rt, "memory");
+    let units = &seen.happened.units;
+    match (units.get(0), units.get(1)) {
+        (Some(first), Some(second)) => (first.unflushed, second.unflushed),
+        _ => fail(rt, "units", &units.len()),
+    }
+}
+
+// One write waited, for its time; one flush of its own was due; and what was written behind it is all that is not flushed. Of the other
+// unit there is nothing.
+fn are_counted<R: Wait + Abort>(rt: &R, alloc: Global, log: &Log) {
+    let (other, own) = counted(rt, alloc, log);
+    let nothing = (
+        other.bytes,
+        other.bound,
+        other.waits,
+        other.waited_micros,
+        other.own_flushes,
+    );
+    must(
+        rt,
+        nothing == (0, 0, 0, 0, 0),
+        "of the other unit",
+        &nothing,
+    );
+    let (waits, micros, flushes) = (own.waits, own.waited_micros, own.own_flushes);
+    let are_so = waits == 1 && micros >= 1000 * PATIENCE && micros < 1000 * LONG && flushes == 1;
+    must(rt, are_so, "waits", &(waits, micros, flushes));
+    let stands = own.bytes == PART && own.bound >= PART;
+    must(rt, stands, "not flushed", &(own.bytes, own.bound));
+}
+
 #[test]
 fn a_wait_ends_with_a_flush_or_with_its_time(rt: HostRuntime) {
     let alloc = rt.alloc();
@@ -100,7 +144,10 @@ fn a_wait_ends_with_a_flush_or_with_its_time(rt: HostRuntime) {
     let path = path.as_str();
     must(&rt, sized(File::create(&rt, path), 2048), "a file", &path);
     let mut blocks = FileBlocks::open(&rt, path).expect(&rt, path);
-    let preparer = FilePreparer::open(rt, alloc, path, &mut blocks, None);
+    let log = counting(&rt, alloc);
+    let file_log = FileLog::new(log.share().expect(&rt, "memory"), 1, Part::Disk);
+    let preparer = FilePreparer::open(rt, alloc, path, &mut blocks, Some(file_log));
     waits_until_a_flush(&rt, &preparer);
+    are_counted(&rt, alloc, &log);
     clean(&rt, folder.as_str());
 }

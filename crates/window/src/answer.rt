@@ -15,6 +15,8 @@ pub enum Seen {
 pub enum Wanted {
     Page,
     Seen(Seen),
+    /// What was counted until moments of the last ten minutes.
+    Recent,
     /// Nothing that there is.
     Nothing,
     /// To do what is not allowed.
@@ -54,6 +56,7 @@ pub fn asked_for(method: &str, path: &str, host: Option<&str>) -> Wanted {
         "/metrics" => Wanted::Seen(Seen::Metrics),
         "/status" => Wanted::Seen(Seen::Status),
         "/health" => Wanted::Seen(Seen::Health),
+        "/recent" => Wanted::Recent,
         _ => Wanted::Nothing,
     }
 }

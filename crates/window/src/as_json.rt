@@ -4,6 +4,7 @@ use crate::view::{
     ArrayView, Commands, Controller, FailureView, NamedCount, PathView, Registration, SessionView,
     UnitView,
 };
+use event_log::{Point, STEP, UnitPoint};
 use json::Writer;
 use std::alloc::{AllocError, Global};
 
@@ -136,7 +137,8 @@ impl AsJson for UnitView {
             unit, owner, generation, registrants, reservation_type, registrations, entries, naa,
             serial, wwid, disk,
             registration_file, blocks, health, troubles, failures, disk_failures,
-            registration_failures, oldest_command_micros, paths)
+            registration_failures, oldest_command_micros, unflushed_bytes, unflushed_bound_bytes,
+            waited_writes, waited_micros, own_flushes, paths)
     }
 }
 
@@ -160,6 +162,42 @@ impl AsJson for ArrayView {
             version, target, array, since, uptime_micros, controllers, units, sessions, logins,
             refused_logins, bounds_micros, problems, degraded)
     }
+}
+
+// What was counted of late.
+#[derive(Drop)]
+struct Recent {
+    step_seconds: u64,
+    points: Vec<Point>,
+}
+
+impl AsJson for UnitPoint {
+    fn put(&self, json: &mut Writer) -> Result<(), AllocError> {
+        put_fields!(json, self: reads, writes, read_bytes, written_bytes, read_micros, write_micros)
+    }
+}
+
+impl AsJson for Point {
+    fn put(&self, json: &mut Writer) -> Result<(), AllocError> {
+        put_fields!(json, self: at, units)
+    }
+}
+
+impl AsJson for Recent {
+    fn put(&self, json: &mut Writer) -> Result<(), AllocError> {
+        put_fields!(json, self: step_seconds, points)
+    }
+}
+
+/// What was counted of late, the oldest first, as JSON.
+pub(crate) fn kept(alloc: Global, points: Vec<Point>) -> Result<Vec<u8>, AllocError> {
+    let mut json = Writer::new(Vec::new(alloc));
+    Recent {
+        step_seconds: STEP,
+        points,
+    }
+    .put(&mut json)?;
+    Ok(json.into_inner())
 }
 
 /// What is seen of an array, as JSON.

@@ -210,6 +210,11 @@ fn of_unit(text: &mut String, name: &str, unit: &UnitView, what: OfUnit) -> Resu
         OfUnit::Failures => all_failures(text, name, unit),
         OfUnit::Hung => of_one(text, name, unit, Count(unit.hung)),
         OfUnit::Troubles => troubles(text, name, unit),
+        OfUnit::Unflushed => of_one(text, name, unit, Count(unit.unflushed_bytes)),
+        OfUnit::UnflushedBound => of_one(text, name, unit, Count(unit.unflushed_bound_bytes)),
+        OfUnit::WaitedWrites => of_one(text, name, unit, Count(unit.waited_writes)),
+        OfUnit::WriteWaits => of_one(text, name, unit, Micros(unit.waited_micros)),
+        OfUnit::OwnFlushes => of_one(text, name, unit, Count(unit.own_flushes)),
     }
 }
 

@@ -1,12 +1,13 @@
 //! What answers the requests of a connection.
 
 use crate::answer::{Seen, Wanted, asked_for};
-use crate::as_json::status;
+use crate::as_json::{kept, status};
 use crate::exposition::metrics;
 use crate::html::PAGE;
 use crate::troubles::health;
 use crate::view::ArrayView;
 use bytes::{BufMut, Bytes};
+use event_log::Point;
 use http::{HeaderName, HeaderValue, Request, StatusCode, header};
 use http_server::{Response, Service};
 use std::alloc::{AllocError, Global};
@@ -15,6 +16,9 @@ use std::alloc::{AllocError, Global};
 pub trait Collector {
     /// The state now, as far as this shows it: registrations are a part of the status alone.
     fn collect(&self, alloc: Global, seen: Seen) -> Result<ArrayView, AllocError>;
+
+    /// What was counted until moments of the last ten minutes, the oldest first.
+    fn recent(&self, alloc: Global) -> Result<Vec<Point>, AllocError>;
 }
 
 /// Answers requests by what is collected.
@@ -94,6 +98,16 @@ fn tell_status(alloc: Global, view: &ArrayView, response: &mut Response) -> Resu
     fill(response, HeaderValue::from_static(JSON), text)
 }
 
+// What was counted of late.
+fn tell_recent(
+    alloc: Global,
+    points: Vec<Point>,
+    response: &mut Response,
+) -> Result<(), AllocError> {
+    let text = kept(alloc, points)?;
+    fill(response, HeaderValue::from_static(JSON), text)
+}
+
 // What is wrong.
 fn tell_health(alloc: Global, view: &ArrayView, response: &mut Response) -> Result<(), AllocError> {
     if !view.problems.is_empty() {
@@ -165,6 +179,7 @@ impl<'a, S: Collector> Handler<'a, S> {
         match wanted {
             Wanted::Page => tell_page(response),
             Wanted::Seen(seen) => self.show(seen, response),
+            Wanted::Recent => tell_recent(self.alloc, self.collector.recent(self.alloc)?, response),
             Wanted::Nothing => say(response, StatusCode::NOT_FOUND, b"not found\n"),
             Wanted::Deed => refuse(response),
             Wanted::Misled => mislead(response),

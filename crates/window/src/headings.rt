@@ -96,10 +96,15 @@ pub(crate) enum OfUnit {
     Failures,
     Hung,
     Troubles,
+    Unflushed,
+    UnflushedBound,
+    WaitedWrites,
+    WriteWaits,
+    OwnFlushes,
 }
 
 /// All of it, in the order of its lines.
-pub(crate) static OF_UNITS: [Metric<OfUnit>; 11] = [
+pub(crate) static OF_UNITS: [Metric<OfUnit>; 16] = [
     (
         OfUnit::Owner,
         "arrayd_unit_owner",
@@ -165,6 +170,36 @@ pub(crate) static OF_UNITS: [Metric<OfUnit>; 11] = [
         "arrayd_unit_trouble",
         "gauge",
         "1 where this is so of the unit or of its disk, else 0.",
+    ),
+    (
+        OfUnit::Unflushed,
+        "arrayd_unit_unflushed_bytes",
+        "gauge",
+        "Bytes that were written to the unit's disk and are not flushed.",
+    ),
+    (
+        OfUnit::UnflushedBound,
+        "arrayd_unit_unflushed_bound_bytes",
+        "gauge",
+        "How many of these there may be before all who write much wait.",
+    ),
+    (
+        OfUnit::WaitedWrites,
+        "arrayd_unit_write_waits_total",
+        "counter",
+        "Commands that waited, before their unit was asked, until more was flushed.",
+    ),
+    (
+        OfUnit::WriteWaits,
+        "arrayd_unit_write_wait_seconds_total",
+        "counter",
+        "How long these commands waited together.",
+    ),
+    (
+        OfUnit::OwnFlushes,
+        "arrayd_unit_own_flushes_total",
+        "counter",
+        "Flushes of the unit's disk that no command asked for.",
     ),
 ];
 

@@ -110,6 +110,13 @@ pub struct UnitView {
     pub hung: u64,
     /// For how long the oldest command is served.
     pub oldest_command_micros: u64,
+    /// Bytes that were written to its disk and are not known to be flushed, and how many there may be; commands that waited for that before
+    /// they wrote, and for how many microseconds together; flushes that no command asked for.
+    pub unflushed_bytes: u64,
+    pub unflushed_bound_bytes: u64,
+    pub waited_writes: u64,
+    pub waited_micros: u64,
+    pub own_flushes: u64,
     pub paths: Vec<PathView>,
 }
 
