@@ -157,8 +157,8 @@ impl<
     ) -> Result<(), Fault> {
         let (rt, alloc) = (self.rt, self.alloc);
         let mut stacks = SmallStacks;
-        let first = start_lanes(rt, alloc, &self.server, Group::One, &mut stacks)?;
-        let second = start_lanes(rt, alloc, &self.server, Group::Two, &mut stacks)?;
+        let first = start_lanes(rt, &self.server, Group::One, &mut stacks)?;
+        let second = start_lanes(rt, &self.server, Group::Two, &mut stacks)?;
         let units = self.server.device.units.units().count();
         start_flushers(rt, &self.server, units, &mut stacks)?;
         let server = Arc::try_clone(&self.server)?;

@@ -119,7 +119,6 @@ fn serve<
 ) -> Served {
     let _lanes = start_lanes::<N, B, F, O, Doors<R>, R, SmallStacks>(
         rt,
-        alloc,
         server,
         group,
         &mut SmallStacks,
