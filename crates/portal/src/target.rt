@@ -13,6 +13,7 @@ use crate::connection::Connection;
 use crate::device::{TargetDevice, Turn};
 use crate::gate::Gate;
 use crate::live::{EnterFault, NewSession};
+use crate::memory::Rooms;
 use crate::sessions::Sessions;
 use crate::unit_session::UnitSession;
 use crate::units::{LogicalUnits, Pass};
@@ -499,8 +500,8 @@ impl<
             return TargetAnswer::Gone;
         };
         let device = self.device;
-        let room = device.spares.room_for(self.place, self.alloc, asked);
-        at.serve(self.rt, room, &device.units, &device.gate, asked, bytes)
+        let rooms = Rooms::at(&device.spares, self.place, self.alloc);
+        at.serve(self.rt, &rooms, &device.units, &device.gate, asked, bytes)
     }
 
     // Resets a unit that is there.
