@@ -12,5 +12,6 @@ pub mod Sessions
 pub mod Silence
 pub mod Submitted
 pub mod Target
+pub mod Turns
 pub mod Units
 pub mod Worker
