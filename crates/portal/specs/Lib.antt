@@ -6,6 +6,7 @@ pub mod Late
 pub mod Leavers
 pub mod Leaving
 pub mod Live
+pub mod Logins
 pub mod Passes
 pub mod Server
 pub mod Sessions

@@ -12,14 +12,14 @@ use crate::units::{Faults, NO_FAULTS, in_memory, opened};
 use array_units::Units;
 use block_file::{Blocks, FusedBlocks, FusedOpener, KeepOpener, Opener};
 use event_log::Log;
-use portal::{Controllers, Server, SmallStacks, Stop, TargetDevice, listen, start_lanes};
+use portal::{Controllers, Logins, Server, SmallStacks, Stop, TargetDevice, listen, start_lanes};
 use scsi_types::Group;
 use std::alloc::Global;
 use std::io::Eprint;
 use std::marker::Brand;
 use std::net::{Ipv4Addr, Net, SocketAddr, SocketAddrV4, TcpListener, TcpStream};
 use std::process::Abort;
-use std::sync::{Arc, Wait};
+use std::sync::{Arc, Mutex, Wait};
 use std::thread::{JoinHandle, Threads};
 use std::time::Clock;
 use test_connections::Host;
@@ -178,6 +178,7 @@ where
         target_name: Vec::from_slice(alloc, b"iqn.2000-01.test:array").expect(rt, "memory"),
         first: Vec::from_slice(alloc, &[first]).expect(rt, "memory"),
         second: Vec::from_slice(alloc, &[second]).expect(rt, "memory"),
+        logins: Mutex::new(Logins::none(alloc).expect(rt, "memory")),
         log: Log::off(),
     };
     Arc::new(alloc, server).expect(rt, "memory")
