@@ -18,7 +18,7 @@ use command_line::{Fault, MAX_UNITS, Options};
 use disk_preparer::{OnDisk, Preparer};
 use event_log::{Event, Log, Resource};
 use portal::{
-    Controllers, Disks, Gate, Lane, Prepared, Server, SmallStacks, TargetDevice, listen,
+    Controllers, Disks, Gate, Lane, Logins, Prepared, Server, SmallStacks, TargetDevice, listen,
     start_flushers, start_lanes,
 };
 use scsi_types::Group;
@@ -30,7 +30,7 @@ use std::mem;
 use std::net::{Net, SocketAddrV4, TcpListener, TcpStream};
 use std::random::RandomSource;
 use std::rt::Files;
-use std::sync::{Arc, Wait};
+use std::sync::{Arc, Mutex, Wait};
 use std::thread::Threads;
 use std::time::Clock;
 use unit_history::{LegalHistory, NewUnit, Opened, Pass};
@@ -112,6 +112,7 @@ impl<
             target_name,
             first,
             second,
+            logins: Mutex::new(Logins::none(alloc)?),
             log,
         };
         match Arc::new(alloc, server) {
@@ -157,8 +158,8 @@ impl<
     ) -> Result<(), Fault> {
         let (rt, alloc) = (self.rt, self.alloc);
         let mut stacks = SmallStacks;
-        let first = start_lanes(rt, alloc, &self.server, Group::One, &mut stacks)?;
-        let second = start_lanes(rt, alloc, &self.server, Group::Two, &mut stacks)?;
+        let first = start_lanes(rt, &self.server, Group::One, &mut stacks)?;
+        let second = start_lanes(rt, &self.server, Group::Two, &mut stacks)?;
         let units = self.server.device.units.units().count();
         start_flushers(rt, &self.server, units, &mut stacks)?;
         let server = Arc::try_clone(&self.server)?;

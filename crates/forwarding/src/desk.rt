@@ -117,7 +117,7 @@ impl<B: Blocks, F: Blocks, O: Opener<B>, N: Namings<Opened>> Desk<B, F, O, N> {
         &self,
         rt: &W,
         waiting: Waiting<B, F, O, N>,
-    ) -> Result<(), (DeskFault, Pass<B, F, O, N>)>
+    ) -> Result<(), (DeskFault, Pass<B, F, O, N>, ReplyMemory)>
         ensures { IfErr result (λ e. e.1 ≡ waiting.pass) }
     {
         let mut queue = self.queue.lock(rt);
@@ -126,7 +126,7 @@ impl<B: Blocks, F: Blocks, O: Opener<B>, N: Namings<Opened>> Desk<B, F, O, N> {
                 NotQueued::Full => DeskFault::Full,
                 NotQueued::Closed => DeskFault::Closed,
             };
-            return Err((fault, waiting.pass));
+            return Err((fault, waiting.pass, waiting.room));
         }
         let others_wait = queue.len() > 1;
         drop(queue);
@@ -136,22 +136,22 @@ impl<B: Blocks, F: Blocks, O: Opener<B>, N: Namings<Opened>> Desk<B, F, O, N> {
         Ok(())
     }
 
-    /// Hands a command of a session in, with a copy of its data: its job waits behind those that came before. Refused, the pass is
-    /// handed back.
+    /// Hands a command of a session in, with a copy of its data: its job waits behind those that came before, and has the memory for its
+    /// reply. Refused, the pass and this memory are handed back.
     pub fn submit<'a, W: Wait>(
         &self,
         rt: &W,
-        alloc: Global,
+        room: ReplyMemory,
         pass: Pass<B, F, O, N>,
         asked: &Asked,
         bytes: &'a [u8],
-    ) -> Result<Ticket<'a, B, F, O, N>, (DeskFault, Pass<B, F, O, N>)>
+    ) -> Result<Ticket<'a, B, F, O, N>, (DeskFault, Pass<B, F, O, N>, ReplyMemory)>
         ensures ticket { IfOk result (λ t. t ≡ handed_of pass asked.now bytes.now self.now) }
         ensures back { IfErr result (λ e. e.1 ≡ pass) }
     {
-        let (ticket, waiting) = match prepare(alloc, pass, asked, bytes, self.group) {
+        let (ticket, waiting) = match prepare(room, pass, asked, bytes, self.group) {
             Ok(both) => both,
-            Err(pass) => return Err((DeskFault::NoMemory, pass)),
+            Err((pass, room)) => return Err((DeskFault::NoMemory, pass, room)),
         };
         match self.put(rt, waiting) {
             Ok(()) => Ok(ticket),
@@ -176,13 +176,13 @@ impl<B: Blocks, F: Blocks, O: Opener<B>, N: Namings<Opened>> Desk<B, F, O, N> {
     }
 
     /// Serves the first job, once there is one, and posts its answer. False: the desk is closed, and no job is left.
-    pub fn serve_next<W: Wait>(&self, rt: &W, alloc: Global, units: &Units<B, F, O, N>) -> bool {
+    pub fn serve_next<W: Wait>(&self, rt: &W, units: &Units<B, F, O, N>) -> bool {
         let Some(job) = self.take(rt) else {
             return false;
         };
         // Each job is of one of the array's units, which its type does not say.
         if job.place() < units.count() {
-            self.post(rt, job.serve(rt, alloc, units));
+            self.post(rt, job.serve(rt, units));
         }
         true
     }
@@ -208,26 +208,25 @@ impl<B: Blocks, F: Blocks, O: Opener<B>, N: Namings<Opened>> Desk<B, F, O, N> {
         ticket.collect(rt)
     }
 
-    // The pass of the ticket's job, where no lane has taken it.
+    // The pass of the ticket's job and the memory for its reply, where no lane has taken it.
     fn take_back<W: Wait>(
         &self,
         rt: &W,
         ticket: &Ticket<'_, B, F, O, N>,
-    ) -> Option<Pass<B, F, O, N>>
-        ensures { IfSome result (λ pass.
-            handed_of pass ticket.now.names.asked ticket.now.data_in ticket.now.names.by_group ≡ ticket.now) }
+    ) -> Option<(Pass<B, F, O, N>, ReplyMemory)>
+        ensures { IfSome result (λ back.
+            handed_of back.0 ticket.now.names.asked ticket.now.data_in ticket.now.names.by_group ≡ ticket.now) }
     {
         let mut queue = self.queue.lock(rt);
         let at = index_of(&queue, ticket)?;
         let waiting = queue.take_at(at)?;
-        Some(waiting.pass)
+        Some((waiting.pass, waiting.room))
     }
 
     /// What becomes of the ticket's job: its worker serves it where no lane has taken it, and else waits for the answer.
     pub fn serve_own<W: Wait>(
         &self,
         rt: &W,
-        room: ReplyMemory,
         units: &Units<B, F, O, N>,
         ticket: Ticket<'_, B, F, O, N>,
     ) -> (Pass<B, F, O, N>, Result<Reply, Refused<Group>>)
@@ -237,7 +236,7 @@ impl<B: Blocks, F: Blocks, O: Opener<B>, N: Namings<Opened>> Desk<B, F, O, N> {
             result.0.pass result.1 }
     {
         match self.take_back(rt, &ticket) {
-            Some(pass) => ticket.serve(rt, room, units, pass),
+            Some((pass, room)) => ticket.serve(rt, room, units, pass),
             None => ticket.collect(rt),
         }
     }
@@ -285,16 +284,16 @@ impl<B: Blocks, F: Blocks, O: Opener<B>, N: Namings<Opened>> Desk<B, F, O, N> {
         ensures { IsSettled (devices B.Blocks F.Blocks O.Opener) (N.opening pass.place) pass
             (handed_of pass asked.now bytes.now self.now) result.0 result.1 }
     {
-        match self.submit(rt, room.alloc(), pass, asked, bytes) {
+        match self.submit(rt, room, pass, asked, bytes) {
             Ok(ticket) => {
-                let (pass, end) = self.serve_own(rt, room, units, ticket);
+                let (pass, end) = self.serve_own(rt, units, ticket);
                 (pass, Ok(end))
             }
-            Err((DeskFault::NoMemory, pass)) => {
+            Err((DeskFault::NoMemory, pass, room)) => {
                 self.serve_at_once(rt, room, units, pass, asked, bytes)
             }
-            Err((DeskFault::Full, pass)) => (pass, Err(DeskFault::Full)),
-            Err((DeskFault::Closed, pass)) => (pass, Err(DeskFault::Closed)),
+            Err((DeskFault::Full, pass, _)) => (pass, Err(DeskFault::Full)),
+            Err((DeskFault::Closed, pass, _)) => (pass, Err(DeskFault::Closed)),
         }
     }
 

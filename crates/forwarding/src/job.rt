@@ -92,11 +92,12 @@ impl<B: Blocks, F: Blocks, O: Opener<B>, N: Namings<Opened>> Slot<B, F, O, N> {
     }
 }
 
-// A command of a session in a desk's queue: the session's pass, which goes with it, a copy of the data that came, and the slot of
-// its answer.
+// A command of a session in a desk's queue: the session's pass and the memory for its reply, which go with it, a copy of the data that
+// came, and the slot of its answer.
 #[derive(Drop)]
 pub(crate) struct Waiting<B: Blocks, F: Blocks, O: Opener<B>, N: Namings<Opened>> {
     pub(crate) pass: Pass<B, F, O, N>,
+    pub(crate) room: ReplyMemory,
     asked: Asked,
     bytes: Vec<u8>,
     slot: Arc<Slot<B, F, O, N>, Global>,
@@ -141,25 +142,20 @@ impl<B: Blocks, F: Blocks, O: Opener<B>, N: Namings<Opened>> Job<B, F, O, N> {
     }
 
     /// Serves the job, as [`Units::serve`].
-    pub fn serve<W: Wait>(
-        self,
-        rt: &W,
-        alloc: Global,
-        units: &Units<B, F, O, N>,
-    ) -> Answer<B, F, O, N>
+    pub fn serve<W: Wait>(self, rt: &W, units: &Units<B, F, O, N>) -> Answer<B, F, O, N>
         requires { self.names.place < units.now }
         ensures { result.job ≡ self }
     {
         let Job { waiting, by_group } = self;
         let Waiting {
             pass,
+            room,
             asked,
             bytes,
             slot,
         } = waiting;
         let names = named(&pass, &asked, by_group);
         let before = pass.history();
-        let room = ReplyMemory::new(alloc);
         let (pass, end) = serve_named(&names, rt, room, units, pass, bytes.as_slice());
         Answer {
             ended: Ended {
@@ -310,24 +306,24 @@ impl<'a, B: Blocks, F: Blocks, O: Opener<B>, N: Namings<Opened>> Ticket<'a, B, F
 }
 
 // A command of a session that is to wait at the desk of a group, and its ticket: the job that waits is the ticket's. Refused, there
-// was no memory, and the pass is handed back.
+// was no memory, and the pass is handed back, with the memory for the reply.
 pub(crate) fn prepare<'a, B: Blocks, F: Blocks, O: Opener<B>, N: Namings<Opened>>(
-    alloc: Global,
+    room: ReplyMemory,
     pass: Pass<B, F, O, N>,
     asked: &Asked,
     bytes: &'a [u8],
     by_group: Group,
-) -> Result<(Ticket<'a, B, F, O, N>, Waiting<B, F, O, N>), Pass<B, F, O, N>>
+) -> Result<(Ticket<'a, B, F, O, N>, Waiting<B, F, O, N>), (Pass<B, F, O, N>, ReplyMemory)>
     ensures ticket { IfOk result (λ r. r.0 ≡ handed_of pass asked.now bytes.now by_group) }
     ensures pass { IfOk result (λ r. r.1.pass ≡ pass) }
     ensures waits { IfOk result (λ r. handed_of r.1.pass r.1.asked r.1.bytes.items by_group ≡ r.0) }
-    ensures back { IfErr result (λ back. back ≡ pass) }
+    ensures back { IfErr result (λ back. back.0 ≡ pass) }
 {
-    let Ok(copy) = bytes.to_vec(alloc) else {
-        return Err(pass);
+    let Ok(copy) = bytes.to_vec(room.alloc()) else {
+        return Err((pass, room));
     };
-    let Ok((mine, slot)) = Slot::shared(alloc) else {
-        return Err(pass);
+    let Ok((mine, slot)) = Slot::shared(room.alloc()) else {
+        return Err((pass, room));
     };
     let ticket = Ticket {
         names: named(&pass, asked, by_group),
@@ -337,6 +333,7 @@ pub(crate) fn prepare<'a, B: Blocks, F: Blocks, O: Opener<B>, N: Namings<Opened>
     };
     let waiting = Waiting {
         pass,
+        room,
         asked: *asked,
         bytes: copy,
         slot,

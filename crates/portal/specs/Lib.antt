@@ -6,11 +6,13 @@ pub mod Late
 pub mod Leavers
 pub mod Leaving
 pub mod Live
+pub mod Logins
 pub mod Passes
 pub mod Server
 pub mod Sessions
 pub mod Silence
 pub mod Submitted
 pub mod Target
+pub mod Turns
 pub mod Units
 pub mod Worker

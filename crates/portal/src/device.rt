@@ -8,7 +8,15 @@ use std::sync::Mutex;
 /// The turn of a normal session to be attached to the units of a target device and to enter its table. There is one.
 #[derive(Drop)]
 pub struct Turn {
-    only: (),
+    // How many sessions have had it.
+    count: u64,
+}
+
+impl Turn {
+    // One more session has it.
+    pub(crate) fn begin(&mut self) {
+        self.count = self.count.wrapping_add(1);
+    }
 }
 
 /// A SCSI target device with its logical units (SAM-5, 4.5), and the sessions that live at it.
@@ -38,7 +46,7 @@ impl<U: Drop, G: Drop, C: Drop> TargetDevice<U, G, Mutex<Table<C>>> {
             units,
             gate,
             sessions: Mutex::new(Table::new(alloc)),
-            beginning: Mutex::new(Turn { only: () }),
+            beginning: Mutex::new(Turn { count: 0 }),
             spares: Spares::none(alloc),
         }
     }

@@ -33,7 +33,6 @@ pub type Lane = PromisedHandle<Group, AtDesk>;
 // Serves what comes to the desk of a group, until it is closed and nothing waits there any more: the group of that desk.
 fn lane<B: Blocks, F: Blocks, O: Opener<B>, N: Namings<Opened>, R: Wait>(
     rt: &R,
-    alloc: Global,
     controllers: &Controllers<B, F, O, N>,
     group: Group,
 ) -> Group
@@ -41,7 +40,7 @@ fn lane<B: Blocks, F: Blocks, O: Opener<B>, N: Namings<Opened>, R: Wait>(
 {
     let desk = controllers.desk(group);
     for _ in rt.forever() {
-        if !desk.serve_next(rt, alloc, controllers.units()) {
+        if !desk.serve_next(rt, controllers.units()) {
             break;
         }
     }
@@ -59,7 +58,6 @@ pub fn start_lanes<
     S: Stacks,
 >(
     rt: &R,
-    alloc: Global,
     server: &Arc<Server<Controllers<B, F, O, N>, G>, Global>,
     group: Group,
     stacks: &mut S,
@@ -71,7 +69,7 @@ pub fn start_lanes<
     {
         let server = Arc::try_clone(server)?;
         let mine = rt.clone()?;
-        let work = move || lane(&mine, alloc, &server.device.units, group);
+        let work = move || lane(&mine, &server.device.units, group);
         match Builder::new()
             .stack_size(stacks.next_stack())
             .spawn_with(rt, AtDesk { group }, work)

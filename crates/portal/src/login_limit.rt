@@ -1,39 +1,50 @@
 //! The one deadline of a login.
 
 use crate::connection::Connection;
+use crate::logins::LoginPlace;
 use session::{Source, Unread};
+use std::sync::Wait;
 use std::time::{Clock, Duration};
 
 /// A source whose connection ends where its login is not over in time, however often bytes come until then.
-pub struct LimitedSource<'a, R: Clock, S, C: Connection> {
+pub struct LimitedSource<'a, R: Wait + Clock, S, C: Connection + Drop> {
     inner: S,
     rt: &'a R,
     connection: &'a C,
+    place: &'a LoginPlace<'a, R, C>,
     // By the clock, where it tells anything.
     began: Option<Duration>,
     // In seconds.
     limit: u64,
 }
 
-impl<R: Clock, S: Drop, C: Connection> Drop for LimitedSource<'_, R, S, C> {
+impl<R: Wait + Clock, S: Drop, C: Connection + Drop> Drop for LimitedSource<'_, R, S, C> {
     fn drop(self) {
         let Self {
             inner: _,
             rt: _,
             connection: _,
+            place: _,
             began: _,
             limit: _,
         } = self;
     }
 }
 
-impl<'a, R: Clock, S, C: Connection> LimitedSource<'a, R, S, C> {
-    /// The source of a connection whose login begins now, and has so many seconds.
-    pub fn new(inner: S, rt: &'a R, connection: &'a C, limit: u64) -> LimitedSource<'a, R, S, C> {
+impl<'a, R: Wait + Clock, S, C: Connection + Drop> LimitedSource<'a, R, S, C> {
+    /// The source of a connection whose login begins now, and has so many seconds. Behind it the connection leaves this place.
+    pub fn new(
+        inner: S,
+        rt: &'a R,
+        connection: &'a C,
+        place: &'a LoginPlace<'a, R, C>,
+        limit: u64,
+    ) -> LimitedSource<'a, R, S, C> {
         LimitedSource {
             inner,
             rt,
             connection,
+            place,
             began: rt.monotonic().ok(),
             limit,
         }
@@ -58,14 +69,16 @@ impl<'a, R: Clock, S, C: Connection> LimitedSource<'a, R, S, C> {
     }
 }
 
-impl<R: Clock, S: Source, C: Connection> Source for LimitedSource<'_, R, S, C> {
+impl<R: Wait + Clock, S: Source, C: Connection + Drop> Source for LimitedSource<'_, R, S, C> {
     ghost left = { λ s. S.left s.inner };
 
     ghost failures = { λ s. S.failures s.inner };
 
     fn read_some(&mut self, buf: &mut [u8], may_be_silent: bool) -> Result<usize, Unread> {
         // Only a login may not be silent.
-        if !may_be_silent {
+        if may_be_silent {
+            self.place.leave();
+        } else {
             self.hurry();
         }
         self.inner.read_some(buf, may_be_silent)

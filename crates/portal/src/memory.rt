@@ -98,3 +98,27 @@ impl Spares {
         }
     }
 }
+
+/// Where a session takes the memory for its replies.
+#[derive(Drop)]
+pub struct Rooms<'a> {
+    spares: &'a Spares,
+    place: usize,
+    alloc: Global,
+}
+
+impl<'a> Rooms<'a> {
+    /// From those of this place.
+    pub fn at(spares: &'a Spares, place: usize, alloc: Global) -> Rooms<'a> {
+        Rooms {
+            spares,
+            place,
+            alloc,
+        }
+    }
+
+    /// The room of a command.
+    pub fn room_for(&self, asked: &Asked) -> ReplyMemory {
+        self.spares.room_for(self.place, self.alloc, asked)
+    }
+}

@@ -11,6 +11,7 @@ use crate::keepalive::is_kept_alive;
 use crate::live::Table;
 use crate::logged_target::Visitor;
 use crate::login_limit::LimitedSource;
+use crate::logins::{LoginPlace, Logins};
 use crate::observer::Observer;
 use crate::stacks::{STACK, Stacks};
 use crate::units::{LogicalUnits, Pass};
@@ -51,6 +52,8 @@ pub struct Server<U: Drop, G: Drop> {
     pub first: Vec<SocketAddrV4>,
     /// The portals of the second controller, in order.
     pub second: Vec<SocketAddrV4>,
+    /// The connections whose login is not over. No lock is taken while theirs is held.
+    pub logins: Mutex<Logins<Socket>>,
     /// What happens is told to it.
     pub log: Log,
 }
@@ -62,6 +65,7 @@ impl<U: Drop, G: Drop> Drop for Server<U, G> {
             target_name: _,
             first: _,
             second: _,
+            logins: _,
             log: _,
         } = self;
     }
@@ -156,6 +160,7 @@ fn serve_as<R: Wait + Clock, U: LogicalUnits<P, H> + Drop, G: Gate + Drop, P: Pa
     server: &Server<U, G>,
     group: Group,
     socket: &Socket,
+    place: &LoginPlace<'_, R, Socket>,
     path: Path,
     me: &Identity<'_>,
 ) -> Result<(), NoMemory>
@@ -166,7 +171,7 @@ fn serve_as<R: Wait + Clock, U: LogicalUnits<P, H> + Drop, G: Gate + Drop, P: Pa
     };
     let stream: &TcpStream = socket;
     let observer = Observer::new(rt, &server.log, path);
-    let timed = LimitedSource::new(Watched::timed(stream), rt, socket, LOGIN_SILENCE);
+    let timed = LimitedSource::new(Watched::timed(stream), rt, socket, place, LOGIN_SILENCE);
     let mut source = KeptSource::new(alloc, timed, &observer);
     let mut sink = ObservedSink::new(Watched::new(stream), &observer);
     match serve_session::<
@@ -207,6 +212,7 @@ fn serve_socket<R: Wait + Clock, U: LogicalUnits<P, H> + Drop, G: Gate + Drop, P
     server: &Server<U, G>,
     group: Group,
     socket: &Socket,
+    place: &LoginPlace<'_, R, Socket>,
     path: Path,
 ) -> Result<(), NoMemory>
     requires { has_limit (arc_value socket.now) login_silence }
@@ -219,7 +225,7 @@ fn serve_socket<R: Wait + Clock, U: LogicalUnits<P, H> + Drop, G: Gate + Drop, P
         first: &first,
         second: &second,
     };
-    serve_as::<R, U, G, P, H>(rt, alloc, server, group, socket, path, &me)
+    serve_as::<R, U, G, P, H>(rt, alloc, server, group, socket, place, path, &me)
 }
 
 // Tells of a connection for which there was no memory.
@@ -227,13 +233,14 @@ fn tell_no_memory<R: Clock>(rt: &R, log: &Log, path: Path) {
     log.tell(rt, &Event::ConnectionEnded(path, Why::NoMemory));
 }
 
-// Serves the session of a connection, and tells where there was no memory for it. Then the connection ends.
+// Serves the session of a connection with this number, and tells where there was no memory for it. Then the connection ends.
 fn work<R: Wait + Clock, U: LogicalUnits<P, H> + Drop, G: Gate + Drop, P: Pass, H: Drop>(
     rt: &R,
     alloc: Global,
     server: &Server<U, G>,
     group: Group,
     socket: &Socket,
+    number: u64,
 ) {
     let stream: &TcpStream = socket;
     let _ = stream.set_nodelay(true);
@@ -242,10 +249,25 @@ fn work<R: Wait + Clock, U: LogicalUnits<P, H> + Drop, G: Gate + Drop, P: Pass, 
     if !is_kept_alive(stream) {
         server.log.tell(rt, &Event::NoKeepalive(path.from));
     }
-    if serve_socket::<R, U, G, P, H>(rt, alloc, server, group, socket, path).is_err() {
+    let place = LoginPlace::new(rt, &server.logins, number);
+    if serve_socket::<R, U, G, P, H>(rt, alloc, server, group, socket, &place, path).is_err() {
         tell_no_memory(rt, &server.log, path);
     }
+    place.leave();
     socket.shut();
+}
+
+// The number of a connection that has come; an error where too many threads serve logins, or there is no memory.
+fn admit<R: Wait, U: Drop, G: Drop>(
+    rt: &R,
+    server: &Server<U, G>,
+    socket: &Socket,
+) -> io::Result<u64> {
+    let socket = Arc::try_clone(socket)?;
+    match server.logins.lock(rt).admit(socket) {
+        Some(number) => Ok(number),
+        None => Err(ErrorKind::WouldBlock.into()),
+    }
 }
 
 // Starts the worker of a connection. Where there is no memory or no thread for it, the connection ends.
@@ -265,12 +287,17 @@ fn start<
     stacks: &mut S,
 ) -> io::Result<()> {
     let socket = Arc::new(alloc, stream)?;
-    let server = Arc::try_clone(server)?;
+    let shared = Arc::try_clone(server)?;
     let mine = rt.clone()?;
-    let work = move || work::<R, U, G, P, H>(&mine, alloc, &server, group, &socket);
-    let _worker: JoinHandle<()> = Builder::new()
+    let number = admit(rt, server, &socket)?;
+    let work = move || work::<R, U, G, P, H>(&mine, alloc, &shared, group, &socket, number);
+    let worker: io::Result<JoinHandle<()>> = Builder::new()
         .stack_size(stacks.next_stack())
-        .spawn(rt, work)?;
+        .spawn(rt, work);
+    if let Err(e) = worker {
+        server.logins.lock(rt).leave(number);
+        return Err(e);
+    }
     Ok(())
 }
 

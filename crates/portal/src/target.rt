@@ -6,6 +6,7 @@ ghost use Rattle.scsi_types.specs.Nexus.{IsPortName};
 ghost use Rattle.portal.specs.Target.{IsAbsent, IsAttachedTo, IsFullAt, IsGrounded, IsJoined, IsOfUnits, IsOverAt, IsTurnedBack};
 ghost use Rattle.portal.specs.Target.{IsUnnamed, Leaves};
 ghost use Rattle.portal.specs.Late.{late_of};
+ghost use Rattle.portal.specs.Turns.{were_attached};
 ghost use Rattle.portal.specs.Target.{HasTried, IsServedAt, IsResetIn, unbegun};
 ghost use Rattle.portal.specs.declared.target.BeginFault.TheVariants as faults;
 
@@ -13,6 +14,7 @@ use crate::connection::Connection;
 use crate::device::{TargetDevice, Turn};
 use crate::gate::Gate;
 use crate::live::{EnterFault, NewSession};
+use crate::memory::Rooms;
 use crate::sessions::Sessions;
 use crate::unit_session::UnitSession;
 use crate::units::{LogicalUnits, Pass};
@@ -241,6 +243,34 @@ fn attach_all<R: Wait, U: LogicalUnits<P, H>, P: Pass, H: Drop>(
     Ok(())
 }
 
+// The same in a turn, which is held from before the first unit to behind the last.
+#[tactic(auto, using(crate::specs::Turns::an_attach_says))]
+fn attach_in_turn<R: Wait, U: LogicalUnits<P, H>, P: Pass, H: Drop>(
+    turn: &mut Turn,
+    rt: &R,
+    alloc: Global,
+    units: &U,
+    port: &PortName,
+    group: Group,
+    attached: &mut Vec<UnitSession<P>>,
+    seen: &mut Vec<H>,
+) -> Result<(), BeginFault>
+    requires none { attached.old.items ≡ [] }
+    requires room { length seen.old.items + U.unit_count units.now ≤ vec_capacity seen.old }
+    ensures joined { IfOk result (λ _. IsJoined U.claims U.opening SessionType.Normal (through port.now group)
+        (U.unit_count units.now) attached.new.items) }
+    ensures placed { IfOk result (λ _. All (λ a. a.place < U.unit_count units.now) attached.new.items) }
+    ensures unseen { IfOk result (λ _. seen.new ≡ seen.old) }
+    ensures turn { IfOk result (λ _. were_attached turn.new attached.new.items) }
+    ensures turned_back { IfErr result (λ fault. IsTurnedBack U.claims U.opening (through port.now group) SessionType.Normal
+        (U.unit_count units.now) fault (map U.seen seen.old.items) (map U.seen seen.new.items)) }
+    ensures of_units { IfErr result IsOfUnits }
+    ensures left { IfErr result (λ _. attached.new.items ≡ []) }
+{
+    turn.begin();
+    attach_all(rt, alloc, units, port, group, attached, seen)
+}
+
 // A session begins to live: its number and its TSIH.
 fn enter<R: Wait, S: Sessions<C>, C: Connection>(
     rt: &R,
@@ -256,6 +286,23 @@ fn enter<R: Wait, S: Sessions<C>, C: Connection>(
     sessions.enter(rt, new, connection)
 }
 
+// The same of a normal session which was attached to these units in this turn, that has not ended since.
+fn enter_in_turn<R: Wait, S: Sessions<C>, C: Connection, P: Pass>(
+    _turn: &mut Turn,
+    rt: &R,
+    sessions: &S,
+    new: NewSession,
+    connection: C,
+    _at: &Vec<UnitSession<P>>,
+) -> Result<(u64, u16), EnterFault>
+    requires turn { were_attached _turn.old _at.now.items }
+    ensures entered { IfOk result (λ r. S.says.entered (through new.port new.group) new.kind r.0 r.1) }
+    ensures tsih { IfOk result (λ r. 0 < r.1) }
+    ensures refused { IfErr result S.says.refused }
+{
+    enter(rt, sessions, new, connection)
+}
+
 // Attaches a normal session to all units; then it begins to live: its number and its TSIH. Where a unit or the
 // table refuses it, it is over at all units. What was seen then is kept.
 fn attach_then_enter<
@@ -266,6 +313,7 @@ fn attach_then_enter<
     P: Pass,
     H: Drop,
 >(
+    turn: &mut Turn,
     rt: &R,
     alloc: Global,
     units: &U,
@@ -289,7 +337,7 @@ fn attach_then_enter<
     ensures grounds { IfErr result (IsGrounded S.says false) }
     ensures left { IfErr result (λ _. at.new.items ≡ []) }
 {
-    match attach_all(rt, alloc, units, &port, group, at, seen) {
+    match attach_in_turn(turn, rt, alloc, units, &port, group, at, seen) {
         Ok(()) => {}
         Err(fault) => return Err(fault),
     }
@@ -298,7 +346,7 @@ fn attach_then_enter<
         group,
         kind: SessionType::Normal,
     };
-    match enter(rt, sessions, new, connection) {
+    match enter_in_turn(turn, rt, sessions, new, connection, at) {
         Ok(entered) => Ok(entered),
         Err(fault) => {
             retire_all(rt, units, at, seen);
@@ -318,7 +366,7 @@ fn attach_and_enter<
     P: Pass,
     H: Drop,
 >(
-    _turn: &mut Turn,
+    turn: &mut Turn,
     rt: &R,
     alloc: Global,
     units: &U,
@@ -346,7 +394,7 @@ fn attach_and_enter<
         return Err(BeginFault::Left);
     }
     attach_then_enter(
-        rt, alloc, units, sessions, port, group, connection, at, seen,
+        turn, rt, alloc, units, sessions, port, group, connection, at, seen,
     )
 }
 
@@ -499,8 +547,8 @@ impl<
             return TargetAnswer::Gone;
         };
         let device = self.device;
-        let room = device.spares.room_for(self.place, self.alloc, asked);
-        at.serve(self.rt, room, &device.units, &device.gate, asked, bytes)
+        let rooms = Rooms::at(&device.spares, self.place, self.alloc);
+        at.serve(self.rt, &rooms, &device.units, &device.gate, asked, bytes)
     }
 
     // Resets a unit that is there.

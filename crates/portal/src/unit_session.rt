@@ -5,6 +5,7 @@ ghost use Rattle.portal.specs.Submitted.{IsCalled, IsOnce, IsServed, IsResetAnsw
 
 use crate::gate::Gate;
 use crate::late::answer_behind_flush;
+use crate::memory::Rooms;
 use crate::units::{LogicalUnits, Pass, Unserved};
 use block_file::ReplyMemory;
 use disk_preparer::Account;
@@ -162,11 +163,11 @@ impl<P: Pass> UnitSession<P> {
         end
     }
 
-    /// Serves a command of the session: once more where the unit has moved.
-    pub fn serve<R: Wait, U: LogicalUnits<P, H>, H: Drop, G: Gate>(
+    /// Serves a command of the session: once more where the unit has moved, with memory of its own for the reply.
+    pub(crate) fn serve<R: Wait, U: LogicalUnits<P, H>, H: Drop, G: Gate>(
         &mut self,
         rt: &R,
-        room: ReplyMemory,
+        rooms: &Rooms<'_>,
         units: &U,
         gate: &G,
         asked: &Asked,
@@ -175,10 +176,9 @@ impl<P: Pass> UnitSession<P> {
         requires { self.old.place < U.unit_count units.now }
         ensures { IsServed U.claims (late_of G.is_late G.lasts) U.opening self.old asked.now bytes.now result self.new }
     {
-        let alloc = room.alloc();
-        match self.submit(rt, room, units, gate, asked, bytes) {
+        match self.submit(rt, rooms.room_for(asked), units, gate, asked, bytes) {
             Err(Unserved::ByUnit(Refused::Moved(_))) => {
-                answered(self.submit(rt, ReplyMemory::new(alloc), units, gate, asked, bytes))
+                answered(self.submit(rt, rooms.room_for(asked), units, gate, asked, bytes))
             }
             end => answered(end),
         }

@@ -64,7 +64,7 @@ fn are_left<B: Blocks, F: Blocks, O: Opener<B>, N: Namings<Opened>, R: Wait + Cl
     let units = controllers.units();
     for group in &[Group::One, Group::Two] {
         let desk = controllers.desk(*group);
-        let is_open = desk.serve_next(rt, alloc, units);
+        let is_open = desk.serve_next(rt, units);
         must(rt, !is_open, "a desk", &group.number());
     }
     for unit in 0..units.count() {

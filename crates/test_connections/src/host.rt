@@ -129,6 +129,12 @@ impl Host {
         came == wanted
     }
 
+    /// Waits until something has come, and leaves it there.
+    pub fn hear(&self) -> Result<(), Fail> {
+        self.stream.peek(&mut [0; 1])?;
+        Ok(())
+    }
+
     /// Waits until the target closes the connection: whether it does, and nothing more comes before.
     pub fn is_over(&mut self) -> bool {
         let mut stream: &TcpStream = &self.stream;

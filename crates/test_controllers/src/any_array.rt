@@ -51,6 +51,9 @@ pub trait Array<S> {
     /// The data of the last reply to a host.
     fn data<'s>(&self, host: &'s S) -> &'s [u8];
 
+    /// Whether these lie in memory that was handed in at the desk with their command.
+    fn is_kept(&self, host: &S) -> bool;
+
     /// Whether a LOGICAL UNIT RESET was done.
     fn reset(&self, host: &mut S) -> bool;
 

@@ -75,6 +75,8 @@ pub enum Told {
     Done,
     /// GOOD with these data.
     Good(Data),
+    /// The same, in the memory that was handed in with the command.
+    Kept(Data),
     /// CHECK CONDITION with this sense key, additional sense code and qualifier.
     Check(u8, u8, u8),
     /// Another end of a command.

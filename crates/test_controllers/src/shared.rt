@@ -6,7 +6,8 @@ use crate::any_array::{Array, End};
 use crate::script::{Asks, command_of};
 use crate::tales::{Tale, happens};
 use array_units::Units;
-use block_file::{Blocks, MemBlocks, Opener, ReplyMemory};
+use block_file::{BLOCK_LENGTH, Blocks, MemBlocks, Opener, ReplyMemory};
+use disk_preparer::BlockMemory;
 use failover::{Mover, set_groups, take_down};
 use forwarding::{Desk, DeskFault, Ticket};
 use scsi_types::{Command, Group, PortName, Reply, Status};
@@ -53,12 +54,22 @@ struct Shared<W: Wait + Drop, B: Blocks, O: Opener<B>, N: Namings<Opened>> {
     desk: Desk<B, MemBlocks, O, N>,
 }
 
-/// The session of a host at one of them: its pass, the ticket of its command that waits at the desk, and the last reply.
+/// Memory that is handed in with a command has room for so many bytes.
+const ROOM: usize = 4096;
+
+// Memory that is handed in for a block.
+fn room(alloc: Global) -> ReplyMemory {
+    let mut bytes = Vec::with_capacity(alloc, ROOM).unwrap_or(Vec::new(alloc));
+    let _ = bytes.resize(BLOCK_LENGTH, 0);
+    ReplyMemory::with(alloc, BlockMemory::fresh(bytes))
+}
+
+/// The session of a host at one of them: its pass, the ticket of its command that waits at the desk, and the data of the last reply.
 #[derive(Drop)]
 struct Host<B: Blocks, O: Opener<B>, N: Namings<Opened>> {
     pass: Option<Pass<B, MemBlocks, O, N>>,
     ticket: Option<Ticket<'static, B, MemBlocks, O, N>>,
-    reply: Option<Reply>,
+    data: Vec<u8>,
 }
 
 impl<B: Blocks, O: Opener<B>, N: Namings<Opened>> Host<B, O, N> {
@@ -68,11 +79,11 @@ impl<B: Blocks, O: Opener<B>, N: Namings<Opened>> Host<B, O, N> {
         match end {
             Ok(reply) => {
                 let end = end_of(&reply);
-                self.reply = Some(reply);
+                self.data = reply.into_bytes();
                 end
             }
             Err(why) => {
-                self.reply = None;
+                self.data.clear();
                 end_by(why)
             }
         }
@@ -105,7 +116,7 @@ impl<W: Wait + Drop, B: Blocks, O: Opener<B>, N: Namings<Opened>> Array<Host<B, 
         Some(Host {
             pass: Some(pass),
             ticket: None,
-            reply: None,
+            data: Vec::new(self.alloc),
         })
     }
 
@@ -148,13 +159,13 @@ impl<W: Wait + Drop, B: Blocks, O: Opener<B>, N: Namings<Opened>> Array<Host<B, 
         };
         match self
             .desk
-            .submit(&self.rt, self.alloc, pass, &Ok(command), bytes)
+            .submit(&self.rt, room(self.alloc), pass, &Ok(command), bytes)
         {
             Ok(ticket) => {
                 host.ticket = Some(ticket);
                 End::Waits
             }
-            Err((fault, pass)) => {
+            Err((fault, pass, _)) => {
                 host.pass = Some(pass);
                 end_at(fault)
             }
@@ -170,22 +181,23 @@ impl<W: Wait + Drop, B: Blocks, O: Opener<B>, N: Namings<Opened>> Array<Host<B, 
     }
 
     fn serve_own(&self, host: &mut Host<B, O, N>) -> End {
-        let (units, room) = (&self.units, ReplyMemory::new(self.alloc));
+        let units = &self.units;
         let Some(ticket) = host.ticket.take() else {
             return End::Nobody;
         };
         if ticket.place() >= units.count() {
             return End::Nobody;
         }
-        let (pass, end) = self.desk.serve_own(&self.rt, room, units, ticket);
+        let (pass, end) = self.desk.serve_own(&self.rt, units, ticket);
         host.keep(pass, end)
     }
 
     fn data<'s>(&self, host: &'s Host<B, O, N>) -> &'s [u8] {
-        match &host.reply {
-            Some(reply) => reply.bytes(),
-            None => &[],
-        }
+        &host.data
+    }
+
+    fn is_kept(&self, host: &Host<B, O, N>) -> bool {
+        host.data.capacity() >= ROOM
     }
 
     fn reset(&self, host: &mut Host<B, O, N>) -> bool {
@@ -234,14 +246,14 @@ impl<W: Wait + Drop, B: Blocks, O: Opener<B>, N: Namings<Opened>> Array<Host<B, 
         let job = self.desk.take(&self.rt)?;
         let unit = job.place();
         if unit < self.units.count() {
-            let answer = job.serve(&self.rt, self.alloc, &self.units);
+            let answer = job.serve(&self.rt, &self.units);
             self.desk.post(&self.rt, answer);
         }
         Some(unit)
     }
 
     fn serve_next(&self) -> bool {
-        self.desk.serve_next(&self.rt, self.alloc, &self.units)
+        self.desk.serve_next(&self.rt, &self.units)
     }
 
     fn close(&self) {

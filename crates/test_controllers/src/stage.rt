@@ -55,6 +55,10 @@ impl<S: Drop, A: Array<S>> Stage<'_, S, A> {
             (Told::Good(data), End::Good) => {
                 Some(self.array.data(self.hosts.get(host)?) == bytes_of(data))
             }
+            (Told::Kept(data), End::Good) => {
+                let host = self.hosts.get(host)?;
+                Some(self.array.is_kept(host) && self.array.data(host) == bytes_of(data))
+            }
             (Told::Check(key, asc, ascq), End::Check(sense)) => {
                 Some(sense.key == key && sense.asc == asc && sense.ascq == ascq)
             }

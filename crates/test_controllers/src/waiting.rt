@@ -2,10 +2,10 @@
 //! once, one after the other, find no desk full.
 use crate::any_array::End;
 use crate::runs::perform;
-use crate::script::Asks::{Spare, Test};
-use crate::script::Deed::{AtDesk, Attach, Close, Collect, HandIn, ServeFirst};
-use crate::script::Told::{Done, Ends, Job, NoJob};
-use crate::script::{GOOD, Line, POWER_ON, WAITS};
+use crate::script::Asks::{Read, Spare, Test};
+use crate::script::Deed::{AtDesk, Attach, Close, Collect, HandIn, ServeFirst, ServeOwn};
+use crate::script::Told::{Done, Ends, Job, Kept, NoJob};
+use crate::script::{Data, GOOD, Line, POWER_ON, WAITS};
 use scsi_types::Group::{One, Two};
 use std::alloc::{AllocError, Global};
 use std::test::*;
@@ -62,6 +62,24 @@ fn write(alloc: Global) -> Result<Vec<Line>, AllocError> {
     empty(&mut script)?;
     collect(&mut script)?;
     Ok(script)
+}
+
+// Whoever serves a job reads into the memory that came with it.
+const KEPT: &[Line] = &[
+    Line(Attach(0, One), Done),
+    Line(HandIn(0, Test), WAITS),
+    Line(ServeFirst, Job(0)),
+    Line(Collect(0), POWER_ON),
+    Line(HandIn(0, Read), WAITS),
+    Line(ServeFirst, Job(0)),
+    Line(Collect(0), Kept(Data::Blank)),
+    Line(HandIn(0, Read), WAITS),
+    Line(ServeOwn(0), Kept(Data::Blank)),
+];
+
+#[test]
+fn a_job_keeps_the_memory_of_its_reply(rt: HostRuntime) -> Result<(), Fail> {
+    perform(&rt, rt.alloc(), &[9], KEPT)
 }
 
 #[test]

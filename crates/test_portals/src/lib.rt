@@ -53,6 +53,8 @@ mod stage;
 #[cfg(test)]
 mod streams;
 #[cfg(test)]
+mod told;
+#[cfg(test)]
 mod units;
 #[cfg(test)]
 mod wanting;

@@ -37,5 +37,52 @@ sessions of discovery take no room
 A comes 2 HOST_A / 15:C9 WELCOME_2
 A power
 A does TEST_UNIT_READY
+
+two logins of one nexus
+# A's write hangs in the device of unit 1. B is attached to unit 0, and waits for unit 1. C comes by the same nexus, and is attached to no unit
+# before B is to both; so it is the later one at each, and lives.
+A alone
+A power 9:01
+disk hold 1
+A > WRITE 9:01 5:000200 pattern 512
+disk held 1
+B at 1
+B > LOGIN 7:56 HOST_B
+0 reaches 3
+C at 1
+C > LOGIN 7:56 HOST_B
+clock 1
+0 shows 3
+disk open
+A < GOOD
+C < LOGGED_IN 7:36 15:03 WELCOME
+C power
+C power 9:01
+C does TEST_UNIT_READY 9:01
+
+connections that do not log in
+# As many wait for their login as may: 128. Of those that come then the first one has A closed, which has waited longest. It leaves its place
+# when it has logged in, so the next one finds room; and once 128 wait again, the one behind has B closed. Those that have logged in stay.
+H comes 1 HOST_A / WELCOME
+H power
+A at 1
+B at 1
+126 wait 1
+C comes 1 HOST_B / 15:02 WELCOME
+A over
+C power
+D at 1
+D > LOGIN 7:56 13:01 HOST_A
+D < LOGGED_IN 7:36 13:010003 WELCOME
+D power
+1 wait 1
+E at 1
+E > LOGIN 7:5A OTHER_HOST
+E < LOGGED_IN 7:36 15:04 WELCOME
+B over
+E power
+H does TEST_UNIT_READY
+C does TEST_UNIT_READY
+D does TEST_UNIT_READY
 "#
 }

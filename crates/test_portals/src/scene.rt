@@ -6,6 +6,8 @@ use std::alloc::Global;
 use std::net::{Net, SocketAddrV4, TcpListener, TcpStream};
 use std::sync::Wait;
 use std::test::Fail;
+use std::thread;
+use std::time::{Clock, Duration};
 use test_connections::Host;
 use test_memory::Latch;
 
@@ -45,6 +47,9 @@ pub trait Scene {
 
     /// Closes the desks.
     fn close(&self);
+
+    /// Lets so many seconds pass.
+    fn pass(&self, seconds: u64);
 }
 
 /// The portals of an array with this gate, whose devices hang at this latch, and whose console this is.
@@ -84,7 +89,7 @@ impl<'a, R: Wait + Drop, C: Console> Portals<'a, R, C> {
     }
 }
 
-impl<R: Wait + Net<Listener = TcpListener, Stream = TcpStream> + Drop, C: Console> Scene
+impl<R: Wait + Clock + Net<Listener = TcpListener, Stream = TcpStream> + Drop, C: Console> Scene
     for Portals<'_, R, C> {
     fn ports(&self) -> [u16; 2] {
         let [first, second] = self.at;
@@ -124,5 +129,9 @@ impl<R: Wait + Net<Listener = TcpListener, Stream = TcpStream> + Drop, C: Consol
 
     fn close(&self) {
         self.console.close();
+    }
+
+    fn pass(&self, seconds: u64) {
+        thread::sleep(self.rt, Duration::from_secs(seconds));
     }
 }

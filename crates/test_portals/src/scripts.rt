@@ -2,8 +2,8 @@
 //! which the first line is the name.
 use crate::serving::{Machine, Script};
 use crate::{
-    clients, discovery, down, fencing, hanging, late, lives, logins, medium, streams, wanting,
-    worked,
+    clients, discovery, down, fencing, hanging, late, lives, logins, medium, silence, streams,
+    wanting, worked,
 };
 use std::net::Ipv4Addr;
 use std::test::*;
@@ -66,4 +66,14 @@ fn an_array_at_any_address_and_one_with_few_threads(rt: HostRuntime) {
         ..Script::of(wanting::scripts())
     };
     Machine::of(&rt).run(&without_threads);
+}
+
+// An accept fails where no connection waits.
+#[test]
+fn hosts_that_are_silent_and_portals_whose_accepts_fail(rt: HostRuntime) {
+    let hasty = Script {
+        is_hasty: true,
+        ..Script::of(silence::script())
+    };
+    Machine::of(&rt).run(&hasty);
 }

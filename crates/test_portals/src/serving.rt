@@ -12,14 +12,14 @@ use crate::units::{Faults, NO_FAULTS, in_memory, opened};
 use array_units::Units;
 use block_file::{Blocks, FusedBlocks, FusedOpener, KeepOpener, Opener};
 use event_log::Log;
-use portal::{Controllers, Server, SmallStacks, Stop, TargetDevice, listen, start_lanes};
+use portal::{Controllers, Logins, Server, SmallStacks, Stop, TargetDevice, listen, start_lanes};
 use scsi_types::Group;
 use std::alloc::Global;
 use std::io::Eprint;
 use std::marker::Brand;
 use std::net::{Ipv4Addr, Net, SocketAddr, SocketAddrV4, TcpListener, TcpStream};
 use std::process::Abort;
-use std::sync::{Arc, Wait};
+use std::sync::{Arc, Mutex, Wait};
 use std::thread::{JoinHandle, Threads};
 use std::time::Clock;
 use test_connections::Host;
@@ -28,14 +28,15 @@ use unit_history::{LegalHistory, NewUnit, Opened, Pass};
 use unit_sequence::Namings;
 
 /// What the hosts of an array do, of one unit or of two, and where it listens: at this address, and at these ports of its two
-/// controllers. So many connections to each find no thread. The last unit is opened anew so often. What a host sends goes out in
-/// pieces of so many bytes.
+/// controllers. So many connections to each find no thread. Its portals may be hasty: where no connection waits, an accept fails. The
+/// last unit is opened anew so often. What a host sends goes out in pieces of so many bytes.
 #[derive(Clone, Copy)]
 pub struct Script<'a> {
     pub name: &'a str,
     pub host: Ipv4Addr,
     pub ports: [u16; 2],
     pub refused: u32,
+    pub is_hasty: bool,
     pub is_alone: bool,
     pub opens: u64,
     pub piece: usize,
@@ -56,6 +57,7 @@ impl<'a> Script<'a> {
             host: Ipv4Addr::new(127, 0, 0, 1),
             ports: [0, 0],
             refused: 0,
+            is_hasty: false,
             is_alone: false,
             opens: u64::MAX,
             piece: usize::MAX,
@@ -119,7 +121,6 @@ fn serve<
 ) -> Served {
     let _lanes = start_lanes::<N, B, F, O, Doors<R>, R, SmallStacks>(
         rt,
-        alloc,
         server,
         group,
         &mut SmallStacks,
@@ -166,6 +167,7 @@ fn server_of<N: Namings<Opened>, B: Blocks, F: Blocks, O: Opener<B>, R>(
     new: Vec<NewUnit<B, F, O>>,
     first: SocketAddrV4,
     second: SocketAddrV4,
+    log: Log,
 ) -> Arc<Server<Controllers<B, F, O, N>, Doors<R>>, Global>
 where
     R: Wait + Abort + Clone + Drop,
@@ -179,7 +181,8 @@ where
         target_name: Vec::from_slice(alloc, b"iqn.2000-01.test:array").expect(rt, "memory"),
         first: Vec::from_slice(alloc, &[first]).expect(rt, "memory"),
         second: Vec::from_slice(alloc, &[second]).expect(rt, "memory"),
-        log: Log::off(),
+        logins: Mutex::new(Logins::none(alloc).expect(rt, "memory")),
+        log,
     };
     Arc::new(alloc, server).expect(rt, "memory")
 }
@@ -214,11 +217,12 @@ fn performed_before<
     performed(rt, alloc, &scene, script)
 }
 
-/// Where arrays are served.
+/// Where arrays are served, and the log that is told of them, where it is on.
 #[derive(Clone, Copy)]
 pub struct Machine<'a, R> {
     rt: &'a R,
     alloc: Global,
+    log: Option<&'a Log>,
 }
 
 impl<'a, R: AllocGlobal> Machine<'a, R> {
@@ -227,6 +231,16 @@ impl<'a, R: AllocGlobal> Machine<'a, R> {
         Machine {
             rt,
             alloc: rt.alloc(),
+            log: None,
+        }
+    }
+
+    /// That of a test, of which this log is told.
+    pub fn told(rt: &'a R, log: &'a Log) -> Machine<'a, R> {
+        Machine {
+            rt,
+            alloc: rt.alloc(),
+            log: Some(log),
         }
     }
 }
@@ -260,10 +274,14 @@ impl<
         requires named { IsNamed N.book N.table N.opening B.contents new.items }
         requires count { length new.items ≤ 8 }
     {
-        let Machine { rt, alloc } = *self;
+        let Machine { rt, alloc, .. } = *self;
         let (first, first_at) = bind(rt, script.host, script.ports[0]);
         let (second, second_at) = bind(rt, script.host, script.ports[1]);
-        let server = server_of::<N, B, F, O, R>(rt, alloc, new, first_at, second_at);
+        if script.is_hasty {
+            first.set_nonblocking(true).expect(rt, "a portal");
+            second.set_nonblocking(true).expect(rt, "a portal");
+        }
+        let server = server_of::<N, B, F, O, R>(rt, alloc, new, first_at, second_at, self.log());
         let stacks = NoRoom {
             refused: script.refused,
         };
@@ -277,9 +295,17 @@ impl<
         ([first_at.port(), second_at.port()], hosts)
     }
 
+    // Another hand on its log.
+    fn log(&self) -> Log {
+        match self.log {
+            Some(log) => log.share().expect(self.rt, "memory"),
+            None => Log::off(),
+        }
+    }
+
     /// Hosts perform a script before units in memory.
     pub fn run(&self, script: &Script<'_>) {
-        let Machine { rt, alloc } = *self;
+        let Machine { rt, alloc, .. } = *self;
         let latch = Latch::open(rt.clone().expect(rt, "memory"));
         let disk = Arc::new(alloc, latch).expect(rt, "memory");
         let units = in_memory(alloc, &disk, script.is_alone, script.opens);

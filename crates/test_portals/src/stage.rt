@@ -25,9 +25,12 @@
 //! - `gate flushes done`: from now on flushes are left to the gate, and done; `fail`: they fail; `fail once`: the next one does;
 //!   `in place`: none is left to it;
 //! - `gate flushed 1`: since the last such line a flush was asked of the gate, the last one of unit 1; `gate unflushed`: none was;
-//! - `0 shows 3`: the row of unit 0 tells of three entries, whoever has its lock;
+//! - `0 shows 3`: the row of unit 0 tells of three entries, whoever has its lock; `0 reaches 3`: once it does;
 //! - `console status / down 1 = unit 0 .. / down`: these lines of the console are answered by those; behind them the desks are closed;
-//! - `desks close`: the desks of both controllers are closed.
+//! - `desks close`: the desks of both controllers are closed;
+//! - `128 wait 1`: so many connections to the portal of controller 1 send nothing;
+//! - `A hears`: something has come for it, which it leaves there; `A leaves`: its connection is closed, and it is called so no more;
+//! - `clock 11`: so many seconds pass.
 use crate::at::At;
 use crate::doors::Flushes;
 use crate::scene::{Place, Scene};
@@ -51,6 +54,9 @@ pub struct Stage<'a, R, S> {
     hosts: Vec<Host>,
     crowd: Vec<Host>,
 }
+
+/// So many seconds a row is waited for.
+const PATIENCE: u32 = 20;
 
 /// What a unit tells of the power.
 const POWER_ON: &str = "CHECK_CONDITION 0012 70000600000000 0A00000000 2900 00000000";
@@ -139,6 +145,7 @@ impl<'a, R: Abort + Eprint, S: Scene> Stage<'a, R, S> {
             "console" => self.compare_answers(words),
             "gate" | "disk" | "flush" | "desks" => self.obey_behind(who, verb, rest),
             "all" => self.obey_all_hosts(verb, rest),
+            "clock" => self.scene.pass(u64::from(self.number(words))),
             _ => self.obey_host(who, verb, rest),
         }
     }
@@ -202,7 +209,11 @@ impl<'a, R: Abort + Eprint, S: Scene> Stage<'a, R, S> {
             "reads" => self.read(who, rest),
             "race" => self.race(rest),
             "enter" => self.enter(who, rest),
+            "wait" => self.wait(who, rest),
+            "hears" => self.hear(who),
+            "leaves" => self.drop_host(who),
             "shows" => self.compare_row(who, rest),
+            "reaches" => self.await_row(who, rest),
             _ => self.at.stop("a verb"),
         }
     }
@@ -408,6 +419,30 @@ impl<'a, R: Abort + Eprint, S: Scene> Stage<'a, R, S> {
         }
     }
 
+    // So many connections send nothing.
+    fn wait(&mut self, count: &str, controller: &str) {
+        for _ in 0..self.number(count) {
+            let host = self.connected(controller);
+            self.crowd.push(host).expect(self.at.rt, "memory");
+        }
+    }
+
+    fn hear(&mut self, name: &str) {
+        let heard = self.host(name).hear();
+        self.at.must(heard);
+    }
+
+    fn drop_host(&mut self, name: &str) {
+        let place = self
+            .names
+            .iter()
+            .position(|n| *n == name)
+            .expect(self.at.rt, "a host");
+        self.names.remove(place);
+        self.at.check(place < self.hosts.len(), &"a host");
+        drop(self.hosts.remove(place));
+    }
+
     fn send_all(&mut self, line: &str) {
         let mut pdu = self.spelled(line);
         for host in &mut self.crowd {
@@ -426,6 +461,17 @@ impl<'a, R: Abort + Eprint, S: Scene> Stage<'a, R, S> {
         let shown = self.scene.entries(self.unit(unit));
         let wanted = u64::from(self.number(entries));
         self.at.check(shown == Some(wanted), &shown);
+    }
+
+    fn await_row(&self, unit: &str, entries: &str) {
+        let wanted = u64::from(self.number(entries));
+        for _ in 0..PATIENCE {
+            if self.scene.entries(self.unit(unit)) == Some(wanted) {
+                return;
+            }
+            self.scene.pass(1);
+        }
+        self.at.stop("its entries")
     }
 
     fn leave(&mut self, line: &str) {

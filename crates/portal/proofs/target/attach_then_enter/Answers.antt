@@ -9,8 +9,8 @@ use Rattle.portal.proofs.target.attach_then_enter.Goals as goal
 pub returns-in-Err-clause-grounds : goal.returns-in-Err-clause-grounds
 returns-in-Err-clause-grounds g c = grounds_of_units g.S.Sessions.says false c.in-Err.fault c.in-Err.ensures.of_units
 
-pub returns-in-Err-enter-clause-turned_back : goal.returns-in-Err-enter-clause-turned_back
-returns-in-Err-enter-clause-turned_back g c =
+pub returns-in-Err-enter_in_turn-clause-turned_back : goal.returns-in-Err-enter_in_turn-clause-turned_back
+returns-in-Err-enter_in_turn-clause-turned_back g c =
     let claims = g.U.LogicalUnits.claims in
     let opening = g.U.LogicalUnits.opening in
     let f = g.U.LogicalUnits.seen in
@@ -18,17 +18,17 @@ returns-in-Err-enter-clause-turned_back g c =
     let units = g.U.LogicalUnits.unit_count c.args.units.now in
     let before : List Sight = map f c.args.seen.now.items in
     let after : List Sight = map f c.retire_all.new.seen.items in
-    let leaves : Leaves claims opening c.attach_all.new.attached.items before after =
-    subst (λ v. Leaves claims opening c.attach_all.new.attached.items (map f v.items) after) c.in-Ok.ensures.unseen
+    let leaves : Leaves claims opening c.attach_in_turn.new.attached.items before after =
+    subst (λ v. Leaves claims opening c.attach_in_turn.new.attached.items (map f v.items) after) c.in-Ok.ensures.unseen
     c.retire_all.ensures.over in
     subst (λ (fault : BeginFault). IsTurnedBack claims opening nexus Normal units fault before after) (sym c.from.ensures)
-    (behind_all claims opening nexus units c.attach_all.new.attached.items before after c.in-Err-enter.fault
+    (behind_all claims opening nexus units c.attach_in_turn.new.attached.items before after c.in-Err-enter_in_turn.fault
     c.in-Ok.ensures.joined leaves)
 
-pub returns-in-Err-enter-clause-grounds : goal.returns-in-Err-enter-clause-grounds
-returns-in-Err-enter-clause-grounds g c =
+pub returns-in-Err-enter_in_turn-clause-grounds : goal.returns-in-Err-enter_in_turn-clause-grounds
+returns-in-Err-enter_in_turn-clause-grounds g c =
     subst (λ (fault : BeginFault). IsGrounded g.S.Sessions.says false fault) (sym c.from.ensures)
-    (grounds_of g.S.Sessions.says false c.in-Err-enter.fault c.in-Err-enter.ensures.refused)
+    (grounds_of g.S.Sessions.says false c.in-Err-enter_in_turn.fault c.in-Err-enter_in_turn.ensures.refused)
 
 pub retire_all-requires-clause-placed : goal.retire_all-requires-clause-placed
 retire_all-requires-clause-placed g c = c.in-Ok.ensures.placed
