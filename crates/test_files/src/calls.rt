@@ -14,6 +14,7 @@ use std::alloc::Global;
 use std::fmt::Debug;
 use std::fs;
 use std::fs::{File, Files};
+use std::os::unix::fs::MetadataExt;
 use std::process::Abort;
 
 /// Plays each script of a table in a folder of this process.
@@ -114,6 +115,7 @@ fn looks_so<R: Files<File = File> + AllocGlobal + Abort>(rt: &R, path: &str, row
             Ok(bytes) => are_those(rt, rt.alloc(), &bytes, row),
             Err(_) => row.end == "none",
         },
+        "filled" => row.ends(is_filled(rt, path)),
         "count" => is_counted(rt, rt.alloc(), count(rt, path), row),
         "registrations" => is_opened(rt, rt.alloc(), path, row),
         "unit" => is_unit(rt, rt.alloc(), path, row),
@@ -127,6 +129,14 @@ fn are_those(rt: &impl Abort, alloc: Global, bytes: &[u8], row: &Row) -> bool {
         bytes == row.bytes(rt, alloc).as_slice() && row.ends(true)
     } else {
         row.end.parse() == Ok(bytes.len())
+    }
+}
+
+// Whether a file has room in its file system for all its bytes.
+fn is_filled<R: Files<File = File>>(rt: &R, path: &str) -> bool {
+    match fs::metadata(rt, path) {
+        Ok(metadata) => metadata.blocks() >= metadata.len() / 512,
+        Err(_) => false,
     }
 }
 

@@ -5,7 +5,8 @@
 //! - `make disk 2048` makes a file of so many zeros, and `cut disk 1024` sets the length of one that is there; `put disk "text"` writes
 //!   a file of these bytes, as `bytes_of` spells them. `rename disk_other disk`, `remove disk`, `link disk disk_link`
 //!   and `symlink disk disk_link` are those calls of the system.
-//! - `length disk; 2048`: it is so long, or `none`, where there is no file. `holds disk 512*00` looks at all its bytes.
+//! - `length disk; 2048`: it is so long, or `none`, where there is no file. `holds disk 512*00` looks at all its bytes, and `filled disk`
+//!   whether the file system has set so many aside.
 //! - `open disk` opens a disk, which is kept until `close`, or ends with why it is not opened.
 //! - `blocks 4`, `read 1 07 08`, `write 1 07 08` and `flush` are calls on the disk that is kept: so many blocks there are, and from
 //!   the block 1 on two are read or written that these bytes fill. `anew` opens it for another controller.
@@ -152,6 +153,14 @@ length disk.reg; 34304
 length disk.reg.new3; none
 registrations disk; APTPL 11
 length disk.reg.new3; none
+
+a file that is made has room for each of its blocks
+registrations disk; no APTPL
+filled disk.reg
+make disk_other.reg 34304
+filled disk_other.reg; failed
+registrations disk_other; Held(NotARegFile)
+filled disk_other.reg; failed
 
 a link to one that is not there is left as it is
 symlink none disk.reg
