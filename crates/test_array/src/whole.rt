@@ -168,7 +168,11 @@ fn compare<R: Abort>(
 
 // An empty folder with the number of this process in its name, within the one in which the tests run. That one is made and taken away
 // by who runs them.
-fn new_folder<R: Files<File = File>>(rt: &R, alloc: Global, process: u32) -> Result<String, Fail> {
+fn new_folder<R: Files<File = File> + AllocGlobal>(
+    rt: &R,
+    alloc: Global,
+    process: u32,
+) -> Result<String, Fail> {
     let folder = format!(in alloc; "arrayd_{process}_whole")?;
     let _ = fs::remove_dir_all(rt, folder.as_str());
     fs::create_dir(rt, folder.as_str())?;
@@ -280,6 +284,7 @@ fn tell_story<
         + Clock
         + Files<File = File>
         + Net<Listener = TcpListener, Stream = TcpStream>
+        + AllocGlobal
         + RandomSource
         + Abort
         + Eprint
