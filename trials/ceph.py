@@ -338,7 +338,7 @@ def not_blocklisted(folder, _):
 
 # ---- how fast it is
 
-SIZE, SECONDS, RUNS = 256 << 20, 3, 3
+SIZE, SECONDS, RUNS = 128 << 20, 1, 3
 MOST = ("--time_based", f"--runtime={SECONDS}", "--randrepeat=0", "--output-format=json")
 
 
@@ -353,12 +353,6 @@ def by_engine(trial, way, length, depth):
     return fio(way, length, *words, env={**os.environ, "CEPH_CONF": trial.conf}, cwd=trial.folder)
 
 
-def by_threads(file, way, length, depth):
-    """What the mount itself gives to so many threads, each of which waits for its command."""
-    return fio(way, length, "--ioengine=psync", f"--filename={file}", f"--size={SIZE}", "--thread", f"--numjobs={depth}",
-               "--group_reporting")
-
-
 def by_host(program, file, port, way, length, depth):
     # of what was read or written before, nothing is in this machine's memory
     with open(file, "rb") as image:
@@ -369,39 +363,30 @@ def by_host(program, file, port, way, length, depth):
 
 
 def speed(folder, _):
-    """The image by its library, by threads over a mount past the page cache, and by a host through the array over a mount."""
+    """The image by its library, and by a host through the array over a mount."""
     trial = Trial(folder)
     try:
         trial.cluster.start()
         trial.cluster.create("fast", str(SIZE >> 20))
         trial.give_files(["fast"])
-        mounts = [Mount(trial.cluster, os.path.join(folder, name), more=more)
-                  for name, more in (("served", ()), ("direct", ("-o", "direct_io")))]
-        for mount in mounts:
-            mount.wait("fast")
-        served, direct = (mount.path("fast") for mount in mounts)
-        trial.conf, program = mounts[0].conf, client(folder)
-        array = Array([served], free_port())
-        ceph_cluster.told(["dd", "if=/dev/urandom", f"of={served}", "bs=1M", f"count={SIZE >> 20}", "conv=notrunc"])
+        mount = Mount(trial.cluster, os.path.join(folder, "fast-mount"))
+        mount.wait("fast")
+        trial.conf, program, file = mount.conf, client(folder), mount.path("fast")
+        array = Array([file], free_port())
+        ceph_cluster.told(["dd", "if=/dev/urandom", f"of={file}", "bs=1M", f"count={SIZE >> 20}", "conv=notrunc"])
         for way in ("read", "write", "fua"):
             for length in (4096, 262144):
                 for depth in (1, 32):
-                    compared(trial, (served, direct), program, array.port, (way, length, depth))
+                    by_fio = "read" if way == "read" else "write"
+                    runs = [(by_engine(trial, by_fio, length, depth), by_host(program, file, array.port, way, length, depth))
+                            for _ in range(RUNS)]
+                    engine, host = (sorted(column)[RUNS // 2] for column in zip(*runs))
+                    say(f"{way} {length >> 10} KiB, {depth} deep: engine {engine:.0f} a second, host {host:.0f}: "
+                        f"{host / engine:.2f}   {[tuple(map(round, run)) for run in runs]}")
         array.kill()
-        for mount in mounts:
-            mount.kill()
+        mount.kill()
     finally:
         trial.end()
-
-
-def compared(trial, files, program, port, work):
-    way, length, depth = work
-    by_fio = "read" if way == "read" else "write"
-    runs = [(by_engine(trial, by_fio, length, depth), by_threads(files[1], by_fio, length, depth),
-             by_host(program, files[0], port, way, length, depth)) for _ in range(RUNS)]
-    engine, threads, host = (sorted(column)[RUNS // 2] for column in zip(*runs))
-    say(f"{way} {length >> 10} KiB, {depth} deep: engine {engine:.0f} a second, mount {threads:.0f}, host {host:.0f}: of the engine "
-        f"{host / engine:.2f}, of the mount {host / threads:.2f}   {[tuple(map(round, run)) for run in runs]}")
 
 
 def main():

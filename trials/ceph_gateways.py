@@ -55,9 +55,14 @@ def begin_network():
     network("link", "set", "gateways", "up")
 
 
-def plug(name, state):
-    """Puts a machine's cable in, or pulls it: `up` or `down`."""
-    network("link", "set", f"tap-{name}", state)
+def pull(name):
+    """Pulls a machine's cable, at the end that is not its own: its network has no way back from a device that fails."""
+    network("link", "set", f"tap-{name}", "nomaster")
+
+
+def plug(name):
+    """Puts a machine's cable in."""
+    network("link", "set", f"tap-{name}", "master", "gateways", "up")
 
 
 class Gateway(Machine):
@@ -68,7 +73,7 @@ class Gateway(Machine):
         super().__init__(name, "plain", folder, run, None)
         self.cluster, self.alive = cluster, None
         network("tuntap", "add", "dev", f"tap-{name}", "mode", "tap")
-        network("link", "set", f"tap-{name}", "master", "gateways", "up")
+        plug(name)
 
     def shell(self):
         return ADDRESS[self.name], SHELL
@@ -223,12 +228,12 @@ def pull_cable(pair):
     witness = Witness(PORT, ADDRESS[old.name], 300)
     witness.start()
     told = pair.works()
-    plug(old.name, "down")
+    pull(old.name)
     lost = time.monotonic()
     pair.hosts.break_off()
     pair.hosts.stop(is_lost=True)
     taken = pair.take_over(lost)
-    plug(old.name, "up")
+    plug(old.name)
     say(f"the cable of machine {old.name} was pulled behind {told}. {taken}. The cable is in again")
     old_cannot_write(pair, old, witness)
 
@@ -274,7 +279,7 @@ def mapped_exclusively(pair):
 def whole(pair, is_fast):
     pair.begin()
     mapped_exclusively(pair)
-    ways = [kill, pull_cable, take_for_lost] if is_fast else [kill, kill, pull_cable, kill, take_for_lost, kill, kill]
+    ways = [kill, pull_cable, take_for_lost] + ([] if is_fast else [kill] * 4)
     for number, way in enumerate(ways):
         say(f"takeover {number + 1}")
         way(pair)
