@@ -18,10 +18,10 @@ from chaos_plants import compiled, copy_with
 from listed import TRIALS, lacking
 from running import ARRAYD
 
-# `where`: the program that is compiled for it, or AS_IT_IS; what stands in a file, and what is put in its place; how the script is
+# `where`: the program that is compiled for it, ONE or OTHER, or none is; what stands in a file, and what is put in its place; how the script is
 # run; what it says then.
 Broken = collections.namedtuple("Broken", "where file old new words said")
-ONE, OTHER, AS_IT_IS = "one", "other", "as it is"
+ONE, OTHER, AS_IT_IS, CHECKER = "one", "other", "as it is", "as it is, the checker broken"
 
 BROKEN = {
     "first_steps": Broken(ONE, "crates/compare_write/src/compare.rt", "        Some(at) => MediumEnd::Miscompare(at),\n        None =>",
@@ -76,7 +76,7 @@ BROKEN = {
                              "                Err(DeviceFailed)\n", "calls.py --in-place --jobs 2", "GOOD, and not"),
     "clients": Broken(OTHER, "crates/identity/src/luns.rt", "    let units = how_many(place, select);\n",
                       "    let units = how_many(place, select).min(1);\n", "clients.py quick", "FAILED    it says: Lun:1"),
-    "orders": Broken(AS_IT_IS, "trials/orders.py", "if first is None or op.start <= first]", "if first is None or op]", "orders_cases.py",
+    "orders": Broken(CHECKER, "trials/orders.py", "if first is None or op.start <= first]", "if first is None or op]", "orders_cases.py",
                      "WRONG taken"),
     "chaos": Broken(AS_IT_IS, "trials/locks.py", '    ("deadline::watch", "hangs"),\n', "", "chaos.py --unproved --found",
                     "a lock that the table does not have"),
@@ -107,7 +107,7 @@ def tried(where, names):
     edits = {broken[1:4] for broken in BROKEN.values() if broken.where == where}
     with tempfile.TemporaryDirectory() as folder:
         tree = copy_with(sorted(edits), folder)
-        program = os.path.abspath(ARRAYD) if where == AS_IT_IS else compiled(tree, os.path.join(folder, "arrayd"))
+        program = compiled(tree, os.path.join(folder, "arrayd")) if where in (ONE, OTHER) else os.path.abspath(ARRAYD)
         return all([finds(name, BROKEN[name], tree, program) for name in names])
 
 
@@ -117,7 +117,7 @@ def main():
         sys.exit(__doc__)
     asked = [name for name in sys.argv[1:] or known if name in BROKEN and not lacking(known[name])]
     left = [name for name in sys.argv[1:] or known if name not in asked and name not in BY_OTHERS]
-    is_well = all([tried(where, names) for where in (ONE, OTHER, AS_IT_IS)
+    is_well = all([tried(where, names) for where in (ONE, OTHER, AS_IT_IS, CHECKER)
                    if (names := [name for name in asked if BROKEN[name].where == where])])
     if left:
         print(f"not tried: {', '.join(left)}")
