@@ -134,7 +134,7 @@ def each_call_on_a_disk(folder, log):
             fail.let(kind, errno.EIO)
             is_so(kind, write(session, lba), "03 0C/00")
             log.find("device_failed", unit="0", file="disk", call=call, block=str(lba), blocks="1", errno="5", error="EIO")
-            log.find("command_failed", command="write", key="0x3", asc="0xc", count=lba)
+            log.find("command_failed", command="write", key="0x3", asc="0xc", times=lba)
         fail.let("pread", errno.EIO, times=failing.EVER)
         is_so("compare", end_of(session.compare_and_write(0, 3, bytes(512), bytes(512))), "03 11/00")
         fail.stop()
@@ -161,7 +161,7 @@ def each_call_on_registrations(folder, log):
             is_so(kind, end_of(session.reserve_out(0, 6, new_key=5, aptpl=True)), "04 44/00")
             fail.stop()
             log.find("device_failed", unit="0", file="registrations", call=call, errno="5", error="EIO")
-            log.find("command_failed", command="persistent_reserve_out", key="0x4", asc="0x44", count=count)
+            log.find("command_failed", command="persistent_reserve_out", key="0x4", asc="0x44", times=count)
         array.quit()
 
 

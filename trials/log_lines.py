@@ -61,13 +61,13 @@ class Log:
                 TOLD.setdefault((line["event"], field, value), {})[self.case] = True
         return lines
 
-    def find(self, event, count=1, seconds=5, **wanted):
+    def find(self, event, times=1, seconds=5, **wanted):
         """The only line of this event that has these fields, or so many: waits for them."""
         until = time.monotonic() + seconds
         while True:
             lines = [line for line in self.all() if line["event"] == event and wanted.items() <= line.items()]
-            if len(lines) >= count:
-                is_so(f"lines of {event} {wanted}", len(lines), count)
+            if len(lines) >= times:
+                is_so(f"lines of {event} {wanted}", len(lines), times)
                 return lines[0]
             if time.monotonic() > until:
                 raise Wrong(f"no line of {event} with {wanted} among {self.all()}")
