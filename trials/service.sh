@@ -224,7 +224,7 @@ IPAddressAllow=10.0.7.9/32
 IPAddressDeny=
 IPAddressDeny=any
 0'
-is 'no disk and no host where none is said' "$(OPTIONS='--host 192.0.2.77' prepared one | grep -v =$)" 'User=arrayd-one
+is 'no disk and no host where none is said' "$(OPTIONS='--host 203.0.113.77' prepared one | grep -v =$)" 'User=arrayd-one
 IPAddressAllow=localhost
 IPAddressDeny=any
 0'
