@@ -25,6 +25,8 @@ TAKEN_BY = (
     ("event_log::meters::reach event_log::meters::Hand", "counts"),
     ("event_log::meters::Meter::seen", "counts"),
     ("event_log::meters::Meters::sum", "book", "counts"),
+    ("event_log::meters::Meters::keep", "book", "counts"),
+    ("event_log::meters::Meters::recent", "book"),
     ("event_log::meters::Meters::enter", "book"),
     ("event_log::meters::Meters::leave", "book"),
     ("event_log::log", "lines"),
