@@ -73,12 +73,14 @@ class Trials:
         env = {**os.environ, "PATH": f"{folder}/bin:{os.environ['PATH']}", "TMPDIR": folder}
         return self.call(["rt", "try", *words], cwd=f"{TOP}/crates/{crate}", env=env, meanwhile=meanwhile)
 
-    def end(self):
+    # A signal may come while a command is waited for, and who waits for it once more then waits for ever.
+    def end(self, waits=True):
         self.is_over = True
         for command in list(self.running):
             command.terminate()
-        for command in list(self.running):
-            command.wait()
+        if waits:
+            for command in list(self.running):
+                command.wait()
         shutil.rmtree(self.room, ignore_errors=True)
 
 
@@ -230,7 +232,7 @@ def main():
     trials = Trials(tempfile.mkdtemp(dir=os.path.dirname(os.path.abspath(sys.argv[2])) if is_one else None))
 
     def stop(number, _):
-        trials.end()
+        trials.end(waits=False)
         os._exit(128 + number)
 
     for number in (signal.SIGINT, signal.SIGTERM, signal.SIGHUP):
