@@ -89,7 +89,7 @@ pub struct FilePreparer<R: Clock + Wait + Drop, F: LastingFile> {
     last: AtomicU64,
     // What was written and is not flushed, and how much the kernel lets be.
     backlog: Backlog,
-    limits: KernelLimits<'static>,
+    limits: KernelLimits,
     ghost own: { IfSome file (λ f. f.node ≡ node) } by { Prim.hlevel props },
 }
 
@@ -127,8 +127,8 @@ impl<R: Clock + Wait + Files<File = File> + Drop> FilePreparer<R, SystemFile> {
         let node = blocks.node();
         let file = again(&rt, path, node);
         let flushes = shared(alloc, &rt, path, blocks);
-        let limits = KernelLimits::new(&rt, KERNEL_FILES, 0);
-        let backlog = Backlog::new(limits.free(&rt, 0));
+        let limits = KernelLimits::new(&rt, &KERNEL_FILES, 0);
+        let backlog = Backlog::new(limits.free(&rt, &KERNEL_FILES, 0));
         FilePreparer {
             rt,
             node,
@@ -552,7 +552,8 @@ impl<R: Clock + Wait + Files<File = File> + Drop, F: LastingFile> Preparer for F
             return false;
         };
         for _ in self.rt.forever() {
-            let free = self.limits.free(&self.rt, self.micros().unwrap_or(0));
+            let now = self.micros().unwrap_or(0);
+            let free = self.limits.free(&self.rt, &KERNEL_FILES, now);
             self.backlog.bind(free, among);
             self.show();
             let is_due = self

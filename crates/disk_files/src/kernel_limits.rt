@@ -116,42 +116,32 @@ fn look<R: Files<File = File>>(rt: &R, files: &KernelFiles<'_>) -> Option<u64> {
 }
 
 /// The kernel's limits, which are looked at now and then: an administrator may set others, and memory comes and goes.
-pub struct KernelLimits<'a> {
-    files: KernelFiles<'a>,
+pub struct KernelLimits {
     // When they were looked at last, in microseconds, and what programs were free to write then.
     looked: AtomicU64,
     free: AtomicU64,
 }
 
-impl Drop for KernelLimits<'_> {
+impl Drop for KernelLimits {
     fn drop(self) {
-        let Self {
-            files: _,
-            looked: _,
-            free: _,
-        } = self;
+        let Self { looked: _, free: _ } = self;
     }
 }
 
-impl<'a> KernelLimits<'a> {
+impl KernelLimits {
     /// Those that these files say, looked at at this time, in microseconds.
-    pub fn new<R: Files<File = File>>(
-        rt: &R,
-        files: KernelFiles<'a>,
-        now: u64,
-    ) -> KernelLimits<'a> {
+    pub fn new<R: Files<File = File>>(rt: &R, files: &KernelFiles<'_>, now: u64) -> KernelLimits {
         KernelLimits {
-            files,
             looked: AtomicU64::new(now),
-            free: AtomicU64::new(look(rt, &files).unwrap_or(UNKNOWN)),
+            free: AtomicU64::new(look(rt, files).unwrap_or(UNKNOWN)),
         }
     }
 
-    /// How many bytes programs are free to write and not to flush, at this time: as it was ten seconds ago at most.
-    pub fn free<R: Files<File = File>>(&self, rt: &R, now: u64) -> u64 {
+    /// How many bytes programs are free to write and not to flush, at this time, by these files: as it was ten seconds ago at most.
+    pub fn free<R: Files<File = File>>(&self, rt: &R, files: &KernelFiles<'_>, now: u64) -> u64 {
         if now.saturating_sub(self.looked.load(Ordering::Relaxed)) >= AGE {
             self.looked.store(now, Ordering::Relaxed);
-            let free = look(rt, &self.files).unwrap_or(UNKNOWN);
+            let free = look(rt, files).unwrap_or(UNKNOWN);
             self.free.store(free, Ordering::Relaxed);
         }
         self.free.load(Ordering::Relaxed)

@@ -86,7 +86,8 @@ fn the_middle_of_both_limits_is_free(rt: HostRuntime) {
     ];
     for (texts, wanted) in &rows {
         said.say(&rt, texts);
-        let free = KernelLimits::new(&rt, said.names(), 0).free(&rt, 0);
+        let files = said.names();
+        let free = KernelLimits::new(&rt, &files, 0).free(&rt, &files, 0);
         must(&rt, free == *wanted, "bytes", &(texts, free));
     }
     clean(&rt, folder.as_str());
@@ -97,12 +98,16 @@ fn limits_that_change_are_seen_in_ten_seconds(rt: HostRuntime) {
     let folder = folder(&rt, process::id(rt.process()), "later");
     let said = Said::new(&rt, rt.alloc(), folder.as_str());
     said.say(&rt, &HUNDREDTHS);
-    let limits = KernelLimits::new(&rt, said.names(), 5);
+    let files = said.names();
+    let limits = KernelLimits::new(&rt, &files, 5);
     said.say(&rt, &BYTES);
-    let before = limits.free(&rt, 5 + AGE - 1);
-    let behind = limits.free(&rt, 5 + AGE);
+    let before = limits.free(&rt, &files, 5 + AGE - 1);
+    let behind = limits.free(&rt, &files, 5 + AGE);
     said.say(&rt, &HUNDREDTHS);
-    let later = (limits.free(&rt, 4 + 2 * AGE), limits.free(&rt, 5 + 2 * AGE));
+    let later = (
+        limits.free(&rt, &files, 4 + 2 * AGE),
+        limits.free(&rt, &files, 5 + 2 * AGE),
+    );
     let seen = (before, behind, later);
     let wanted = (1_288_490_175, 201_326_592, (201_326_592, 1_288_490_175));
     must(&rt, seen == wanted, "bytes", &seen);

@@ -15,6 +15,10 @@ a host that is silent
 A alone
 clock 11
 A does TEST_UNIT_READY
+# Meanwhile no connection has waited at controller 2.
+B comes 2 HOST_B / 15:02 WELCOME_2
+B power
+B does TEST_UNIT_READY
 "#
 }
 

@@ -440,7 +440,9 @@ impl<'a, R: Abort + Eprint, S: Scene> Stage<'a, R, S> {
             .expect(self.at.rt, "a host");
         self.names.remove(place);
         self.at.check(place < self.hosts.len(), &"a host");
-        drop(self.hosts.remove(place));
+        if place < self.hosts.len() {
+            drop(self.hosts.remove(place));
+        }
     }
 
     fn send_all(&mut self, line: &str) {
