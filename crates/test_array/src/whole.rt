@@ -1,24 +1,21 @@
 //! The program over two files: which unit is in which file, and which portal in which group. While it still serves, the files are
 //! copied, and a second array starts over the copies: so it finds what was written and registered, though the first has not ended.
-//! This shows no loss of a cache, as what a disk has not yet written is in the copies too. All this once more where calls have a deadline.
+//! This shows no loss of a cache, as what a disk has not yet written is in the copies too.
 use crate::administrators::administration;
 use crate::ends::must;
 use crate::hosts::perform;
 use crate::site::{Site, free_site, make};
 use crate::visits::{Visited, console_lines};
-use array::{open, open_files, serve, serve_timed};
+use array::{open, serve};
 use event_log::{Log, Meters};
 use std::alloc::Global;
 use std::fs::{self, File};
 use std::io::BufReader;
 use std::net::{Net, TcpListener, TcpStream};
 use std::process::{self, Abort};
-use std::random::RandomSource;
 use std::rt::Files;
-use std::sync::{Arc, Wait};
+use std::sync::Arc;
 use std::test::*;
-use std::thread::Threads;
-use std::time::{Clock, Duration};
 use test_connections::{Host, filled};
 
 // What hosts do before the files are copied. Each login is told the group of its portal.
@@ -210,112 +207,39 @@ fn story<'a>(site: Site<'a>, left: Site<'a>, visits: [&'a str; 2]) -> [Visited<'
     ]
 }
 
-// Serves an array over its files, each of whose calls takes so long at most, where it is said.
-fn serve_so<
-    R: Threads
-        + Wait
-        + Clock
-        + Files<File = File>
-        + Net<Listener = TcpListener, Stream = TcpStream>
-        + RandomSource
-        + Abort
-        + Eprint
-        + Clone
-        + Drop
-        + Send
-        + Sync
-        + 'static,
->(
-    rt: &R,
-    alloc: Global,
-    visited: &Visited<'_>,
-    patience: Option<Duration>,
-    hosts: &mut Vec<Host>,
-    said: &mut Vec<u8>,
-) -> Result<(), Fail> {
-    let options = visited.site.options(alloc)?;
-    let reader = BufReader::new(alloc, console_lines(rt, alloc, visited, hosts))?;
-    let log = Log::off().counting(Arc::new(alloc, Meters::new(alloc, 2)?)?);
-    let (window, control) = (visited.site.window(), visited.site.control);
-    let administration = Some(administration(rt, &log, window, control)?);
-    let end = match patience {
-        None => {
-            let Ok(array) = open(rt, alloc, &log, &options) else {
-                return Err("an array that is opened".into());
-            };
-            serve(
-                rt,
-                alloc,
-                &options,
-                array,
-                &log,
-                administration,
-                reader,
-                said,
-            )
-        }
-        Some(patience) => {
-            let Ok(files) = open_files(rt, alloc, &log, &options) else {
-                return Err("files that are opened".into());
-            };
-            serve_timed(
-                rt,
-                alloc,
-                &options,
-                files,
-                patience,
-                &log,
-                administration,
-                reader,
-                said,
-            )
-        }
-    };
-    if end.is_err() {
-        return Err("an array that is served".into());
-    }
-    Ok(())
-}
-
-// The visits of an array over new files, and of one over their copies.
-fn tell_story<
-    R: Threads
-        + Wait
-        + Clock
-        + Files<File = File>
-        + Net<Listener = TcpListener, Stream = TcpStream>
-        + AllocGlobal
-        + RandomSource
-        + Abort
-        + Eprint
-        + Clone
-        + Drop
-        + Send
-        + Sync
-        + 'static,
->(rt: &R, alloc: Global, process: u32, patience: Option<Duration>) -> Result<(), Fail> {
-    let folder = new_folder(rt, alloc, process)?;
+#[test]
+fn units_have_their_files_and_portals_their_groups(rt: HostRuntime) -> Result<(), Fail> {
+    let alloc = rt.alloc();
+    let process = process::id(rt.process());
+    let folder = new_folder(&rt, alloc, process)?;
     let paths = paths(alloc, folder.as_str())?;
-    let (site, left) = sites(rt, process, &paths)?;
+    let (site, left) = sites(&rt, process, &paths)?;
     let before = filled(alloc, before(), found())?;
     let after = filled(alloc, after(), found())?;
     for visited in story(site, left, [before.as_str(), after.as_str()]) {
+        let options = visited.site.options(alloc)?;
         let mut hosts = Vec::new(alloc);
         let mut said = Vec::new(alloc);
-        serve_so(rt, alloc, &visited, patience, &mut hosts, &mut said)?;
-        compare(rt, alloc, &visited, said.as_slice(), hosts.as_mut_slice())?;
+        let reader = BufReader::new(alloc, console_lines(&rt, alloc, &visited, &mut hosts))?;
+        let log = Log::off().counting(Arc::new(alloc, Meters::new(alloc, 2)?)?);
+        let (window, control) = (visited.site.window(), visited.site.control);
+        let administration = Some(administration(&rt, &log, window, control)?);
+        let Ok(array) = open(&rt, alloc, &log, &options) else {
+            return Err("an array that is opened".into());
+        };
+        let end = serve(
+            &rt,
+            alloc,
+            &options,
+            array,
+            &log,
+            administration,
+            reader,
+            &mut said,
+        );
+        assert!(rt; end.is_ok());
+        compare(&rt, alloc, &visited, said.as_slice(), hosts.as_mut_slice())?;
     }
-    fs::remove_dir_all(rt, folder.as_str())?;
+    fs::remove_dir_all(&rt, folder.as_str())?;
     Ok(())
-}
-
-#[test]
-fn units_have_their_files_and_portals_their_groups(rt: HostRuntime) -> Result<(), Fail> {
-    tell_story(&rt, rt.alloc(), process::id(rt.process()), None)
-}
-
-#[test]
-fn they_have_them_where_calls_have_a_deadline(rt: HostRuntime) -> Result<(), Fail> {
-    let other = process::id(rt.process()).wrapping_add(1000);
-    tell_story(&rt, rt.alloc(), other, Some(Duration::from_secs(20)))
 }
