@@ -5,5 +5,6 @@
 #
 #   ./wrong-bodies.sh            all crates
 #   ./wrong-bodies.sh session    one crate
-#   ./wrong-bodies.sh --list     tries none: lists all, also those of the gate, and what refuses each
+#   ./wrong-bodies.sh --only always_gone unit_lock     those of a crate, or of all, whose names have the word, also the gate's own
+#   ./wrong-bodies.sh --list     tries none: lists all, also the gate's own, and what refuses each where the edit says so
 cd "$(dirname "$0")" && exec python3 tools/wrong_bodies.py "$@"

@@ -17,7 +17,8 @@ text stands once in that function of the file, where it stands elsewhere too. A 
 clause that refuses the edit, or a test that does too.
 
 usage: wrong-bodies.sh [--lanes N] [CRATE..]     N checks at a time; without it, as many as processors and memory bear
-       wrong-bodies.sh --list [CRATE..]          tries nothing: lists the edits, also those that the gate tries, and what refuses each
+       wrong-bodies.sh --only WORD [CRATE..]     those whose names have the word, also of the gate's own (crates/*/must-fail/*.edit)
+       wrong-bodies.sh --list [CRATE..]          tries nothing: lists the edits, also the gate's own, and what refuses each where it says so
 Prints a line for each edit, and at the end 'N refused, M not refused'; the status is 1 where one was not refused or not tried."""
 
 import argparse
@@ -145,11 +146,10 @@ def rounds_of(edits, own, texts):
 class Trial:
     """All edits of one crate, and what becomes of each."""
 
-    def __init__(self, crate, is_proved, lane, say):
+    def __init__(self, crate, files, is_proved, lane, say):
         # (is_proved: whether the whole crate is known to be proved as it stands)
         self.crate, self.is_proved, self.lane, self.say = crate, is_proved, lane, say
-        folder = f"{TOP}/crates/{crate}/wrong-bodies"
-        self.edits = [Edit(crate, f"{folder}/{name}") for name in sorted(os.listdir(folder)) if name.endswith(".edit")]
+        self.edits = [Edit(crate, file) for file in files]
         self.texts = texts_of(f"{lane.top}/crates/{crate}", {path for edit in self.edits for path in edit.files()})
         self.own = {edit: own_functions(edit, self.texts) for edit in self.edits}
         # by what a check is asked for a function, and how it names that in turn
@@ -281,17 +281,22 @@ def last_line(said):
     return (wrong or said.splitlines() or [""])[0][:200]
 
 
-def table_of(crates):
+GATE, BESIDE = "must-fail", "wrong-bodies"
+
+
+def files_of(crate, *folders, word=""):
+    """The edits of a crate whose names have the word."""
+    files = [file for folder in folders for file in sorted(glob.glob(f"{TOP}/crates/{crate}/{folder}/*.edit"))]
+    return [file for file in files if word in os.path.basename(file).removesuffix(".edit")]
+
+
+def table_of(crates, word):
     """A line for each edit of these crates: who tries it, its name, and what refuses it, where the edit says so."""
     for crate in crates:
-        for folder, who in (("must-fail", "gate  "), ("wrong-bodies", "beside")):
-            for file in sorted(glob.glob(f"{TOP}/crates/{crate}/{folder}/*.edit")):
+        for folder, who in ((GATE, "gate  "), (BESIDE, "beside")):
+            for file in files_of(crate, folder, word=word):
                 edit = Edit(crate, file)
                 yield f"{who}  {edit}" + (f": {edit.refused_by}" if edit.refused_by else "")
-
-
-def crates_with_edits():
-    return [name for name in needs() if os.path.isdir(f"{TOP}/crates/{name}/wrong-bodies")]
 
 
 def copy_of(top, place):
@@ -326,7 +331,9 @@ def lanes_that_fit():
     return max(1, min(len(os.sched_getaffinity(0)), free // MEMORY))
 
 
-def try_all(crates, room, count):
+def try_all(files, room, count):
+    """Whether all edits of these files are refused, by the crates whose they are."""
+    crates = list(files)
     known, lock, began = needs(), threading.Lock(), time.monotonic()
 
     def say(line):
@@ -353,7 +360,7 @@ def try_all(crates, room, count):
         lane = lanes.get()
         before = lane.seconds
         try:
-            came = Trial(crate, crate in kept, lane, say).tried()
+            came = Trial(crate, files[crate], crate in kept, lane, say).tried()
         finally:
             lanes.put(lane)
         for edit, what in came.items():
@@ -363,7 +370,7 @@ def try_all(crates, room, count):
 
     with concurrent.futures.ThreadPoolExecutor(count) as pool:
         # what has most edits takes longest, so it begins first
-        order = sorted(crates, key=lambda crate: -len(os.listdir(f"{TOP}/crates/{crate}/wrong-bodies")))
+        order = sorted(crates, key=lambda crate: -len(files[crate]))
         found = [what for came in pool.map(one, order) for what in came.values()]
     counts = collections.Counter("refused" if what == "refused" else what.partition(":")[0] for what in found)
     for what in sorted(set(counts) - {"refused"}):
@@ -376,19 +383,23 @@ def try_all(crates, room, count):
 def main():
     words = argparse.ArgumentParser(description=__doc__.split("\n\n")[0])
     words.add_argument("--lanes", type=int, default=lanes_that_fit())
+    words.add_argument("--only", default="", metavar="WORD")
     words.add_argument("--list", action="store_true")
     words.add_argument("crates", nargs="*", metavar="CRATE")
     given = words.parse_args()
-    there = needs() if given.list else crates_with_edits()
+    folders = (GATE, BESIDE) if given.list or given.only else (BESIDE,)
+    there = {name: found for name in needs() if (found := files_of(name, *folders, word=given.only)) or given.list and not given.only}
     for name in given.crates:
         if name not in there:
-            sys.exit(f"wrong-bodies.sh: crates/{name} has no wrong bodies")
+            sys.exit(f"wrong-bodies.sh: crates/{name} has no {'such ' if given.only else ''}wrong bodies")
+    if not there:
+        sys.exit(f"wrong-bodies.sh: no wrong body has {given.only} in its name")
+    files = {name: there[name] for name in given.crates or there}
     if given.list:
-        print(*table_of(given.crates or there), sep="\n")
+        print(*table_of(files, given.only), sep="\n")
         return
-    crates = given.crates or there
     with tempfile.TemporaryDirectory(prefix="wrong-bodies-") as room:
-        sys.exit(0 if try_all(crates, room, max(1, min(given.lanes, len(crates)))) else 1)
+        sys.exit(0 if try_all(files, room, max(1, min(given.lanes, len(files)))) else 1)
 
 
 if __name__ == "__main__":
