@@ -2,7 +2,7 @@
 """A chaos that can be repeated. Each seed starts the array, whose threads go on in an order that the seed says (trials/chaos), and hosts
 of a load that the seed says (trials/chaos_hosts.py): eight nexuses through both controllers read, write, compare and write, flush,
 reserve, reset, log in again and leave, while controllers go down and come up, sessions are ended, a disk hangs and comes back, and the
-array is killed and started again. Then it looks:
+array is killed and started again, and somebody looks through its window. Then it looks:
 
   - for each unit there is an order of all that was asked, in which each answer is the model's (trials/orders.py);
   - nobody waited for ever, and `quit` ended; else who holds and who awaits which lock is told;
@@ -40,7 +40,7 @@ import tempfile
 import threading
 import time
 
-from chaos_hosts import BLOCKS, UNITS, Host, Load, Operator, last_look, numbers_in
+from chaos_hosts import BLOCKS, UNITS, Host, Load, Looker, Operator, last_look, numbers_in
 from chaos_model import ATTACH, READ, RESTART, Op, Unit
 from chaos_plants import PLANTS, compile_with, compiled
 from chaos_run import FAULTS, Chaos, Names, library, sees_locks
@@ -73,7 +73,9 @@ def flavour_of(seed):
     return {"out": dice.choice((0, 6, 14)), "leaves": dice.choice((0, 0.03, 0.1)), "reset": dice.choice((0, 1, 3)), "set": dice.choice((0, 1, 3)),
             "operator": dice.choice((0, 5, 10)), "count": dice.choice((10, 16, 28)), "hosts": dice.choice((3, 5, 8)),
             "hangs": hangs, "deadline": deadline, "restart": dice.random() < 0.3,
-            "permille": dice.choice((10, 40, 120)), "stops": dice.random() < 0.8, "log": dice.random() < 0.5}
+            "permille": dice.choice((10, 40, 120)), "stops": dice.random() < 0.8, "log": dice.random() < 0.5,
+            # by a die of its own, so that all else of a seed stays
+            "window": random.Random(f"{seed} looker").random() < 0.3}
 
 
 class Run:
@@ -83,7 +85,7 @@ class Run:
         self.seed, self.folder, self.built, self.names, self.fault = seed, folder, built, names, fault
         self.flavour, self.stays_lost = flavour_of(seed), stays_lost
         self.may_fail = self.flavour["hangs"] and self.flavour["deadline"]
-        self.findings, self.load, self.began = [], None, time.monotonic()
+        self.findings, self.load, self.window, self.began = [], None, None, time.monotonic()
         self.counted, self.locks = collections.Counter(), {}
         self.disks = [made(os.path.join(folder, f"disk{unit}"), BLOCKS) for unit in range(UNITS)]
 
@@ -95,6 +97,9 @@ class Run:
         if self.flavour["deadline"]:
             more["ARRAYD_DEADLINE"] = "1" if self.flavour["hangs"] else "20"
         for attempt in range(3):
+            if self.flavour["window"]:
+                self.window = free_port()
+                more["ARRAYD_HTTP"] = f"127.0.0.1:{self.window}"
             with contextlib.suppress(FileNotFoundError):
                 # that of a life that was killed
                 os.unlink(more["ARRAYD_CONTROL"])
@@ -111,7 +116,8 @@ class Run:
     def threads(self, count):
         hosts = [Host(self.load, place, count) for place in range(self.flavour["hosts"])]
         operator = Operator(self.load, os.path.join(self.folder, "control"), self.flavour["operator"])
-        return [*hosts, operator]
+        lookers = [Looker(self.load, self.window, 12)] if self.flavour["window"] else []
+        return [*hosts, operator, *lookers]
 
     def hang(self, dice):
         """The first disk hangs for a while."""

@@ -13,7 +13,7 @@ from chaos_model import (ATTACH, COMPARE, DOWN, FLUSH, IN, NON_OPTIMIZED, NUMBER
 from initiator import BLOCK, CHECK_CONDITION, GOOD, Closed, Refused, Session
 from reservations import (CLEAR, NEXUSES, PREEMPT, PREEMPT_AND_ABORT, REGISTER, REGISTER_AND_IGNORE, RELEASE, RESERVE, TYPES,
                           Request)
-from running import TARGET
+from running import TARGET, Wrong
 
 UNITS, BLOCKS, AT_ONCE = 2, 8, 4
 LOST = (Closed, Refused, OSError)
@@ -282,6 +282,39 @@ class Operator(threading.Thread):
         except Exception as fault:  # it is told with the run
             if not self.load.is_over:
                 self.load.faults.append(f"operator: {fault!r}")
+
+
+class Looker(threading.Thread):
+    """Who looks through the window at a port now and then."""
+
+    def __init__(self, load, port, count):
+        super().__init__(daemon=True)
+        self.load, self.port, self.count = load, port, count
+        self.dice = random.Random(f"{load.seed} looker")
+
+    def asked(self, path):
+        with socket.create_connection(("127.0.0.1", self.port), timeout=60) as peer:
+            peer.sendall(f"GET {path} HTTP/1.1\r\nHost: 127.0.0.1:{self.port}\r\n\r\n".encode())
+            said = b""
+            while part := peer.recv(65536):
+                said += part
+        return said.split(b"\r\n")[0].decode()
+
+    def run(self):
+        try:
+            for _ in range(self.count):
+                if self.load.is_over:
+                    break
+                time.sleep(self.dice.random() * 0.08)
+                path = self.dice.choice(("/metrics", "/status", "/health"))
+                said = self.asked(path)
+                # one for which too much time went by is ended with no answer
+                if said and not said.startswith(("HTTP/1.1 200", "HTTP/1.1 503")):
+                    raise Wrong(f"{path} was answered by {said!r}")
+                self.load.progress += 1
+        except Exception as fault:  # it is told with the run
+            if not self.load.is_over:
+                self.load.faults.append(f"window: {fault!r}")
 
 
 def last_look(load):

@@ -32,6 +32,8 @@ TAKEN_BY = (
     ("event_log::log", "lines"),
     ("event_log::writer", "lines"),
     ("portal::memory", "kept memory"),
+    ("window::serving::receive", "guests"),
+    ("window::serving::work", "guests"),
 )
 
 # What may be waited for while this is held. Who only tries, and goes on without, can keep nobody waiting in a ring, and is not looked at.
