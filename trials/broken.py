@@ -82,6 +82,9 @@ BROKEN = {
                     "a lock that the table does not have"),
     "chaos_planted": Broken(AS_IT_IS, "trials/chaos/threads.c", "    if (drawn(&own->dice) % shared->fault_in)\n", "    if (own)\n",
                             "chaos.py --planted lost_wake --seeds 3", "NOT found"),
+    "power": Broken(AS_IT_IS, "trials/power.c", "        take(fd, file, sector);\n        pthread_mutex_unlock",
+                    "        if (found.st_size != 8192 * SECTOR)\n            take(fd, file, sector);\n        pthread_mutex_unlock", "power.py --rounds 3",
+                    "things are lost"),
     "service": Broken(AS_IT_IS, "service/arrayd-console", '        tell(folder, b"quit\\n")\n        return told.to_the_end(folder)\n',
                       '        tell(folder, b"quit\\n")\n        return []\n', "service.sh", "FAILED  quit waits until it has ended"),
 }

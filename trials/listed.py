@@ -81,6 +81,7 @@ TRIALS = [
     Trial("full_disk", "full_disk.py", "full_disk.py limit", [], 60, 10, "a promised block that is lost where there is no room; most ways want root"),
     Trial("failover", "failover.py 31 60", "failover.py 8 10", [], 65, 12, "a command that is lost or done twice while its unit moves", None, True),
     Trial("load", "load.py 64 32 300", "load.py 8 8 10", [RUSTC], 320, 20, "a write that was answered and is gone behind `kill -9`", None, True),
+    Trial("power", "power.py", "power.py --rounds 3", [CC], 50, 10, "a flush or a save that comes too late for a loss of power, with a deadline or without"),
     Trial("refused", "refused.py", None, [CC, glibc], 60, 0, "an allocation whose failure is not looked at"),
     Trial("standstill", "standstill.py", None, [CC], 120, 0, "a disk that stands still past the deadline and is not served again when it goes on"),
     Trial("calls", "calls.py --jobs 2", None, [CC], 300, 0, "a failure of a disk that is not told; a GOOD before its flush"),
