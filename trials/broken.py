@@ -89,7 +89,7 @@ BROKEN = {
                       '        tell(folder, b"quit\\n")\n        return []\n', "service.sh", "FAILED  quit waits until it has ended"),
 }
 # These find what is planted by themselves, or are seen to find it by another.
-BY_OTHERS = ("chaos_as_it_is", "ceph", "ceph_lying_cache", "ceph_not_blocklisted", "ceph_gateways", "ceph_gateways_not_blocklisted",
+BY_OTHERS = ("chaos_as_it_is", "calls_with_deadline", "ceph", "ceph_lying_cache", "ceph_not_blocklisted", "ceph_gateways", "ceph_gateways_not_blocklisted",
              "broken")
 
 

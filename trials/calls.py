@@ -13,7 +13,7 @@ registration file, on the file as which that is made, and on their folder. A cal
 write also with half of its blocks written, and with all of them; and then so that all later calls on the same file fail too.
 The same is done to a start over files that are there. A disk's preparer reads nothing here: it gets no handle for that. By those
 that it flushes by only the flushes count, which come behind their commands. With --in-place it has none of them, so that each flush
-is the device's, under its unit's lock.
+is the device's, under its unit's lock. With --deadline each call has one, which none of them passes, and is made by a thread.
 
 A model of what may be stands beside it. By that
 - each reply is GOOD, with the one data that there can be, or has the sense of the call that failed: 03 11/00 of a read,
@@ -29,8 +29,8 @@ are asked for, and told where they fail. A loss of power is tried by the proved 
 
 Prints a table; ends with status 1 at the first thing that is otherwise, with all that was asked and answered up to there.
 
-usage: trials/calls.py [--in-place] [--jobs J] [PROGRAM]
-       trials/calls.py [--in-place] --at N [--how HOW] [--end END] [PROGRAM]     one run, with all that was said
+usage: trials/calls.py [--in-place] [--deadline] [--jobs J] [PROGRAM]
+       trials/calls.py [--in-place] [--deadline] --at N [--how HOW] [--end END] [PROGRAM]     one run, with all that was said
 
 J runs are made at a time, 1 where that is not said. HOW is none, half, whole or dead, as trials/failing.c has them; END is "at
 once", kill, quit, or kept: killed at once, but behind another GOOD. Where no PROGRAM is given it is what ARRAYD names, or ./arrayd,
@@ -59,6 +59,8 @@ from running import ARRAYD, Wrong, made
 # How a run ends: killed as soon as the failed call was told; the same, but where a save failed behind one PERSISTENT RESERVE
 # OUT more, which changes nothing and is GOOD, so that what was there before is saved; killed or told to quit, all asked.
 ENDS_OF_RUNS = ("at once", "kept", "kill", "quit")
+# In seconds: past what a call takes here.
+DEADLINE = "20"
 
 
 # ---- what is asked in a life
@@ -378,9 +380,12 @@ def main():
     words.add_argument("--how", default="none", choices=("none", "half", "whole", "dead"))
     words.add_argument("--end", default="quit", choices=ENDS_OF_RUNS)
     words.add_argument("--in-place", action="store_true")
+    words.add_argument("--deadline", action="store_true")
     words.add_argument("--jobs", type=int, default=1)
     words.add_argument("program", nargs="?", default=ARRAYD)
     words = words.parse_args()
+    if words.deadline:
+        os.environ["ARRAYD_DEADLINE"] = DEADLINE
     with tempfile.TemporaryDirectory() as folder:
         runs = Runs(os.path.abspath(words.program), folder, words.jobs, words.in_place)
         try:

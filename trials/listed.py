@@ -86,6 +86,7 @@ TRIALS = [
     Trial("standstill", "standstill.py", None, [CC], 120, 0, "a disk that stands still past the deadline and is not served again when it goes on"),
     Trial("calls", "calls.py --jobs 2", None, [CC], 300, 0, "a failure of a disk that is not told; a GOOD before its flush"),
     Trial("calls_in_place", "calls.py --in-place --jobs 2", None, [CC], 300, 0, "the same, where each flush is the device's, under its unit's lock"),
+    Trial("calls_with_deadline", "calls.py --deadline --jobs 2", None, [CC], 300, 0, "the same, where each call has a deadline"),
     Trial("clients", "clients.py", None, [commands("qemu-img", "qemu-nbd", "iscsi-ls", "iscsi-test-cu", "fio")], 300, 0,
           "a host that reads a standard otherwise than we: libiscsi, qemu, fio"),
     Trial("linux_host", "linux_host.py run $LINUX_HOST", None, [QEMU, LINUX], 900, 0,
