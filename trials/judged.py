@@ -327,7 +327,6 @@ class Judged(Life):
             self.calls_of(seen, unit, DISK, ())
             self.must(answer, wanted)
             return
-        self.calls_of(seen, unit, DISK, ("open", "statx", "lseek"))
         is_failed = self.is_open_failed(unit, seen, states)
         self.must(answer, OPEN_FAILED if is_failed else GOOD_REPLY)
         if not is_failed:
@@ -340,8 +339,14 @@ class Judged(Life):
             if seen:
                 raise Wrong(f"the owner stays, and it calls {seen[0]}")
             return False
-        self.calls_of(seen, unit, DISK, ("open", "statx", "lseek"))
-        if any(call.has_failed() for call in seen):
+        self.calls_of(seen, unit, DISK, ("open", "statx", "lseek", *FLUSHES))
+        self.note_flushes(unit, seen)
+        failed = [call for call in seen if call.has_failed()]
+        if failed and failed[0].kind in FLUSHES:
+            # by the handle of before, which goes: each later flush fails
+            unit.is_disk_lost = True
+            self.came("passed over")
+        elif failed:
             return True
         if not any(call.kind == "open" and call.is_done() for call in seen):
             raise Wrong("another owner, and no open")
