@@ -37,13 +37,13 @@ BROKEN = {
                       "trouble.py address_of_each_controller", "WRONG address_of_each_controller: Wrong(\"a discovery"),
     "window": Broken(OTHER, "crates/event_log/src/counts.rt", "self.conflicts.wrapping_add(1)", "self.conflicts.wrapping_add(2)",
                      "window.py counts", "WRONG counts: Wrong('ends"),
-    "window_page": Broken(ONE, "crates/window/src/html.rt", "owner: 'controller ' + unit.owner", "owner: 'controller ' + (3 - unit.owner)",
+    "window_page": Broken(ONE, "crates/window/src/script.rt", "owner: 'controller ' + unit.owner", "owner: 'controller ' + (3 - unit.owner)",
                           "window_page.py", "WRONG page"),
     "want": Broken(ONE, "crates/portal/src/server.rt", "        is_told = tell_wanting(",
                    "        if let Some(Resource::Descriptor) = wanting {\n            return;\n        }\n        is_told = tell_wanting(",
                    "want.py", "lack of descriptors"),
-    "hostile": Broken(ONE, "crates/portal/src/server.rt", "            tell_end(rt, &server.log, path, end, &visitor, named);\n",
-                      "            tell_end(rt, &server.log, path, end, &visitor, named);\n            if visitor.tsih == 0 {\n"
+    "hostile": Broken(ONE, "crates/portal/src/server.rt", "            tell_end(rt, &server.log, path, end, &visitor, named, is_lost);\n",
+                      "            tell_end(rt, &server.log, path, end, &visitor, named, is_lost);\n            if visitor.tsih == 0 {\n"
                       "                server.device.sessions.lock(rt).shut(2);\n            }\n", "hostile.py --connections 50", "the session beside them"),
     "full_disk": Broken(ONE, "crates/disk_files/src/blocks.rt", "            Ok(()) => Ok(()),\n            Err(error) => {\n"
                         "                self.tell(Call::Write,", "            Ok(()) => Ok(()),\n            Err(27) if first % 2 == 0 => Ok(()),\n            Err(error) => {\n"
@@ -85,8 +85,8 @@ BROKEN = {
     "power": Broken(AS_IT_IS, "trials/power.c", "        take(fd, file, sector);\n        pthread_mutex_unlock",
                     "        if (found.st_size != 8192 * SECTOR)\n            take(fd, file, sector);\n        pthread_mutex_unlock", "power.py --rounds 3",
                     "things are lost"),
-    "service": Broken(AS_IT_IS, "service/arrayd-console", '        tell(folder, b"quit\\n")\n        return told.to_the_end(folder)\n',
-                      '        tell(folder, b"quit\\n")\n        return []\n', "service.sh", "FAILED  quit waits until it has ended"),
+    "service": Broken(AS_IT_IS, "service/arrayd-console", '        written(folder, b"quit\n")\n    ended(folder, limit)\n',
+                      '        written(folder, b"quit\n")\n', "service.sh", "FAILED  quit waits until it has ended"),
 }
 # These find what is planted by themselves, or are seen to find it by another.
 BY_OTHERS = ("chaos_as_it_is", "calls_with_deadline", "ceph", "ceph_lying_cache", "ceph_not_blocklisted", "ceph_gateways", "ceph_gateways_not_blocklisted",

@@ -247,7 +247,8 @@ class Operator(threading.Thread):
             said = b""
             while part := peer.recv(4096):
                 said += part
-        return said.decode().strip()
+        # without the last line, which says how it was obeyed
+        return said.decode().rpartition(". ")[0].strip()
 
     def move(self, kind, controller):
         """Each unit that moved has it in its history; `up` moves only those that it concerns."""

@@ -7,6 +7,8 @@ usage: trials/control.py [NAME..]      all, where none is named
 The program is ./arrayd, or what the environment's ARRAYD names.
 """
 
+import contextlib
+import errno
 import os
 import re
 import socket
@@ -15,7 +17,9 @@ import subprocess
 import time
 
 from cases import Cases, is_so, lines, until
+from failing import Failing
 from free_port import free_port
+from initiator import Session
 from running import PORT, TOP, Array, Wrong, begun, ended, library, made
 from window import HOSTILE, host
 
@@ -28,7 +32,11 @@ MOVED = [f"unit={unit} owner={owner} states={states} by=console"
          for unit, owner, states in [(0, 2, "3,0"), (1, 2, "3,0"), (2, 2, "3,0"), (0, 1, "0,1"), (1, 2, "1,0"), (2, 1, "0,1"),
                                      (0, 1, "0,3"), (1, 1, "0,3"), (2, 1, "0,3"), (0, 1, "0,1"), (1, 2, "1,0"), (2, 1, "0,1"),
                                      (0, 1, "0,3"), (1, 1, "0,3"), (2, 1, "0,3")]]
-HELP = ["status", "acknowledge", "sessions", "keys U", "end TSIH", "up 1, up 2", "version", "help"]
+HELP = ["status", "health", "sessions", "keys U", "version", "help", "acknowledge", "end TSIH", "down 1, down 2", "up 1, up 2", "quit"]
+# The last line of an answer: done, not done, no such line.
+DONE, NOT_DONE, UNKNOWN = ". 0", ". 1", ". 2"
+# As many discovery sessions, with connections whose login is not over, as there may be, and as many connections as attended to at once.
+GUESTS, ATTENDANTS = 128, 8
 
 
 def array_in(folder, units=1, log=None, more=None):
@@ -50,22 +58,35 @@ def all_of(peer):
     return said
 
 
-def asked(folder, text):
-    """The lines that answer this text."""
+def told(folder, text):
+    """The lines that answer this text, with the last one of each answer."""
     with connected(folder) as peer:
         peer.sendall(text if isinstance(text, bytes) else text.encode() + b"\n")
         peer.shutdown(socket.SHUT_WR)
         return all_of(peer).decode("ascii").splitlines()
 
 
+def asked(folder, text):
+    """The lines that answer this text, of which the last one of each answer says how it was obeyed."""
+    found = told(folder, text)
+    if found[-1:] not in ([DONE], [NOT_DONE], [UNKNOWN]):
+        raise Wrong(f"{text!r}: no end of an answer: {found}")
+    return [line for line in found if line not in (DONE, NOT_DONE, UNKNOWN)]
+
+
+def orders(log):
+    """The lines of the log that tell what the array was told to do."""
+    return [line.split(" line=", 1)[1] for line in lines(log, "order by=control")]
+
+
 def sessions(folder):
     """The sessions by ISID, each of whose lines has to be spelled as lines are."""
     found = {}
     for line in asked(folder, "sessions"):
-        told = SESSION.fullmatch(line)
-        if not told:
+        one = SESSION.fullmatch(line)
+        if not one:
             raise Wrong(f"no session: {line!r}")
-        found[int(told[4], 16)] = told
+        found[int(one[4], 16)] = one
     return found
 
 
@@ -85,12 +106,14 @@ def words(folder):
         is_so("status then", asked(folder, "status"), array.ask("status", 2))
         with open(f"{TOP}/VERSION", encoding="ascii") as file:
             is_so("version", asked(folder, "version"), [f"arrayd {file.read().strip()}"])
-        is_so("help", [line[:12].rstrip() for line in asked(folder, "help")], HELP)
+        is_so("help", [line[:15].rstrip() for line in asked(folder, "help")], HELP)
         is_so("sessions", asked(folder, "sessions"), [])
-        for text in ("", "no", "STATUS", "quit", "down 1", " status", "status ", "end", "end ", "end x", "end -1", "end 65536", "end 1 2",
-                     "sessions 1", "\u00e9"):
-            is_so(text, asked(folder, text), ["?"])
-        is_so("no UTF-8", asked(folder, b"\xff\xfe\n"), ["?"])
+        for text in ("", "no", "STATUS", "QUIT", "down", "down 0", "down 3", " status", "status ", "end", "end ", "end x", "end -1",
+                     "end 65536", "end 1 2", "sessions 1", "\u00e9", "."):
+            is_so(text, told(folder, text), ["?", UNKNOWN])
+        is_so("no UTF-8", told(folder, b"\xff\xfe\n"), ["?", UNKNOWN])
+        is_so("one behind the other", told(folder, "version\nkeys 9\n\nkeys 0\nend 7"),
+              ["arrayd 1.0.0", DONE, "no unit", NOT_DONE, "?", UNKNOWN, DONE, "no session", NOT_DONE])
         is_so("CR LF", asked(folder, b"version\r\nversion\r\n"), ["arrayd 1.0.0"] * 2)
         is_so("no end of line", asked(folder, b"version"), ["arrayd 1.0.0"])
         is_so("the units", array.status(1, 2)["owner"], "2")
@@ -147,6 +170,7 @@ def session_that_is_ended(folder):
         is_so("it came again", again.read(0, 0, 1), bytes(512))
         array.quit()
         is_so("the log", any(f"tsih={tsih} " in line + " " for line in lines(log, "session_ended")), True)
+        is_so("the orders", orders(log), ['"end 65535"', f'"end {tsih}"', f'"end {tsih}"'])
 
 
 @case
@@ -223,14 +247,131 @@ def controller_that_comes_up(folder):
         array.ask("down 2")
         before = array.ask("status", 3)
         is_so("up 1 while 2 is down", (asked(folder, "up 1"), array.ask("status", 3)), (["up"], before))
-        told = lines(log, "groups_set")
-        is_so("what moved is told", [line.split("groups_set ", 1)[1] for line in told], MOVED)
+        is_so("what moved is told", [line.split("groups_set ", 1)[1] for line in lines(log, "groups_set")], MOVED)
         array.ask("up 2")
         array.ask("down 1")
         os.remove(f"{folder}/disk0")
         is_so("a disk that is gone", asked(folder, "up 1"), ["not moved 0"])
         array.quit()
         is_so("the log", (len(lines(log, "not_moved")), len(lines(log, "groups_set")) >= 9), (1, True))
+        is_so("the orders", orders(log), ['"up 1"', '"up 1"', '"up 2"', '"up 1"', '"up 1"'])
+
+
+@case
+def controller_that_goes_down(folder):
+    log = f"{folder}/log"
+    with array_in(folder, 2, log=log) as array:
+        session = host(2)
+        is_so("down", told(folder, "down 1"), ["down", DONE])
+        is_so("owners", [array.status(unit, 2)["owner"] for unit in range(2)], ["2", "2"])
+        is_so("states", [array.status(unit, 2)["states"] for unit in range(2)], [("3", "0"), ("3", "0")])
+        is_so("a host is told", session.command(0, [0] * 6).sense_key(), (6, 0x2A, 6))
+        is_so("and goes on", session.read(0, 0, 1), bytes(512))
+        is_so("what is degraded", told(folder, "health"), ["degraded: controller 1 is down: no unit is served by it", DONE])
+        is_so("both", (told(folder, "down 2"), array.status(0, 2)["owner"]), (["down", DONE], "1"))
+        os.rename(f"{folder}/disk1", f"{folder}/away")
+        is_so("a disk that is gone", told(folder, "down 1"), ["not moved 1", NOT_DONE])
+        array.quit()
+        is_so("what moved", [line.split("groups_set ", 1)[1] for line in lines(log, "groups_set")],
+              [f"unit={unit} owner={owner} states={states} by=console" for unit, owner, states in
+               [(0, 2, "3,0"), (1, 2, "3,0"), (0, 1, "0,3"), (1, 1, "0,3"), (0, 2, "3,0")]])
+        is_so("the orders", orders(log), ['"down 1"', '"down 2"', '"down 1"'])
+
+
+@case
+def what_is_wrong(folder):
+    failing = Failing(folder)
+    with array_in(folder, more=failing.environment) as array:
+        session = host()
+        is_so("well", told(folder, "health"), ["ok", DONE])
+        failing.let("pread", errno.EIO, times=4)
+        session.command(0, [0x28, 0, 0, 0, 0, 9, 0, 0, 1, 0], expected=512)
+        failing.stop()
+        said = told(folder, "health")
+        is_so("not well", (said[0].startswith("unit 0: "), "call=read error=EIO" in said[0], said[1:]), (True, True, [NOT_DONE]))
+        is_so("seen", told(folder, "acknowledge"), ["acknowledged", DONE])
+        is_so("well then", told(folder, "health"), ["ok", DONE])
+        array.quit()
+
+
+@case
+def array_that_is_told_to_quit(folder):
+    log = f"{folder}/log"
+    with array_in(folder, log=log) as array:
+        session = host()
+        session.write(0, 0, b"kept".ljust(512))
+        is_so("quit", told(folder, "quit"), [DONE])
+        is_so("its status", array.process.wait(10), 0)
+        is_so("standard output", array.last_words()[1], "")
+        is_so("the socket is gone", os.path.exists(f"{folder}/control"), False)
+        is_so("the log", (orders(log), len(lines(log, "stopping"))), (['"quit"'], 1))
+    with array_in(folder) as array:
+        # the peer that told it does not wait for the answer
+        with connected(folder) as peer:
+            peer.sendall(b"quit\n")
+        is_so("its status", array.process.wait(10), 0)
+    failing = Failing(folder)
+    with array_in(folder, log=log, more=failing.environment) as array:
+        host().write(0, 0, bytes(512))
+        failing.let("fdatasync", errno.EIO, times=9)
+        is_so("not flushed", told(folder, "quit"), ["not flushed 0", NOT_DONE])
+        is_so("its end", (array.process.wait(10), "unit 0 was not flushed" in array.process.stderr.read()), (3, True))
+        is_so("the log", (len(lines(log, "stopping")), len(lines(log, "not_flushed"))), (2, 1))
+
+
+@case
+def input_that_is_a_terminal(folder):
+    """Also one whose standard input says nothing, and is no pipe, ends."""
+    ours, theirs = os.openpty()
+    program = begun(["--port", str(PORT), made(f"{folder}/disk", 64)], more={"ARRAYD_CONTROL": f"{folder}/control"}, stdin=theirs,
+                    stdout=subprocess.PIPE)
+    try:
+        is_so("ready", program.stdout.readline(), b"arrayd: ready\n")
+        os.write(ours, b"status\n")
+        is_so("a line", program.stdout.readline()[:6], b"unit 0")
+        is_so("quit", told(folder, "quit"), [DONE])
+        is_so("its status", program.wait(10), 0)
+    finally:
+        program.kill()
+        program.wait()
+        os.close(ours)
+        os.close(theirs)
+
+
+@case
+def line_that_waits(folder):
+    """A line that waits for a disk holds up no other one."""
+    os.mkdir(f"{folder}/slow")
+    slow = {"LD_PRELOAD": library("bench/slow_disk.c", folder), "SLOW_DISK": f"{folder}/slow", "SLOW_FLUSH": "3000000"}
+    with Array([made(f"{folder}/slow/disk", 4096)], more={"ARRAYD_CONTROL": f"{folder}/control", **slow}) as array:
+        host().write(0, 0, bytes(512))
+        began = time.monotonic()
+        with connected(folder) as peer:
+            peer.sendall(b"down 1\n")
+            time.sleep(0.2)
+            is_so("meanwhile", (told(folder, "version"), time.monotonic() - began < 1), (["arrayd 1.0.0", DONE], True))
+            is_so("it", (peer.recv(100), time.monotonic() - began > 2), (b"down\n. 0\n", True))
+        array.quit()
+
+
+@case
+def discovery_sessions(folder):
+    """Whoever comes may begin them under any names: so they have a bound, the oldest goes first, and a host gets in."""
+    log = f"{folder}/log"
+    with array_in(folder, log=log) as array:
+        mine = host()
+        guests = [Session(*array.portal(1 + at % 2), None, f"iqn.2000-01.test:guest{at}", timeout=20) for at in range(GUESTS + 12)]
+        count = lambda: sum(line[3] == "discovery" for line in SESSION.finditer("\n".join(asked(folder, "sessions"))))
+        is_so("how many", until(lambda: count() == GUESTS), True)
+        is_so("the oldest are gone", [is_closed(guest) for guest in guests[:12]], [True] * 12)
+        is_so("the newest is there", len(guests[-1].text([("SendTargets", "All")])), 3)
+        other = host(2)
+        is_so("who is in", (mine.read(0, 0, 1), other.read(0, 0, 1)), (bytes(512), bytes(512)))
+        for guest in guests:
+            guest.close()
+        is_so("they leave", until(lambda: count() == 0), True)
+        array.quit()
+        is_so("the log", sum("why=too_many_wait" in line for line in lines(log, "session_ended")), 13)
 
 
 @case
@@ -290,17 +431,23 @@ def paths(folder):
 
 @case
 def silent_peer(folder):
-    """One that says nothing holds others up for ten seconds; sessions and the console never."""
+    """Eight that say nothing hold others up for ten seconds; sessions and the console never."""
     with array_in(folder) as array:
         session, began = host(), time.monotonic()
-        with connected(folder):
+        with contextlib.ExitStack() as silent:
+            for _ in range(ATTENDANTS - 1):
+                silent.enter_context(connected(folder))
+            is_so("beside seven", asked(folder, "version"), ["arrayd 1.0.0"])
+            is_so("at once", time.monotonic() - began < 2, True)
+            silent.enter_context(connected(folder))
+            time.sleep(0.2)
             is_so("the console", array.status()["owner"], "1")
             is_so("a session", session.read(0, 0, 1), bytes(512))
             is_so("then", asked(folder, "version"), ["arrayd 1.0.0"])
             is_so("about ten seconds", 8 < time.monotonic() - began < 13, True)
         with connected(folder) as peer:
             peer.sendall(b"version\nver")
-            is_so("whole lines", peer.recv(100), b"arrayd 1.0.0\n")
+            is_so("whole lines", peer.recv(100), b"arrayd 1.0.0\n. 0\n")
         with connected(folder) as peer:
             peer.sendall(b"status\n" * 20000)
         with connected(folder) as peer:
@@ -337,9 +484,9 @@ def beside_the_window(folder):
         with socket.create_connection(("127.0.0.1", at)) as peer:
             peer.sendall(b"GET /status HTTP/1.1\r\nHost: localhost\r\n\r\n")
             view = json.loads(all_of(peer).partition(b"\r\n\r\n")[2])["sessions"][0]
-        told = sessions(folder)[0x400001370000]
+        line = sessions(folder)[0x400001370000]
         is_so("the same", [str(view[name]) for name in ("tsih", "controller", "kind", "isid", "peer", "portal", "since", "commands",
-                                                         "last_command", "initiator")], list(told.groups()))
+                                                         "last_command", "initiator")], list(line.groups()))
         array.quit()
 
 
@@ -350,11 +497,11 @@ def console_of_the_service(folder):
     os.mkfifo(f"{folder}/told")
     ask = lambda *words_: subprocess.run([f"{TOP}/service/arrayd-console", folder, *words_], capture_output=True, text=True, check=False,
                                          timeout=60)
-    console, told = (os.open(f"{folder}/{name}", os.O_RDWR) for name in ("console", "told"))
+    console, out = (os.open(f"{folder}/{name}", os.O_RDWR) for name in ("console", "told"))
     disk = made(f"{folder}/disk", 64)
-    program = begun(["--port", str(PORT), disk], more={"ARRAYD_CONTROL": f"{folder}/control"}, stdin=console, stdout=told)
+    program = begun(["--port", str(PORT), disk], more={"ARRAYD_CONTROL": f"{folder}/control"}, stdin=console, stdout=out)
     os.close(console)
-    os.close(told)
+    os.close(out)
     try:
         is_so("ready", ask("ready").stdout[:6], "unit 0")
         session = host()
@@ -365,7 +512,10 @@ def console_of_the_service(folder):
         is_so("end", (ask("end", SESSION.fullmatch(line.strip())[1]).stdout, is_closed(session)), ("ended\n", True))
         is_so("none", (ask("end", "65535").returncode, ask("end", "x").returncode), (1, 2))
         is_so("down", ask("down", "1").stdout, "down\n")
-        is_so("quit", ask("quit").returncode, 0)
+        is_so("health", (ask("health").stdout[:9], ask("health").returncode), ("degraded:", 0))
+        is_so("no such line", ask("down", "3").returncode, 2)
+        is_so("quit", (lambda end: (end.returncode, end.stdout))(ask("quit")), (0, ""))
+        is_so("it has ended", program.poll(), 0)
         is_so("no array", ask("sessions").returncode, 3)
     finally:
         program.kill()

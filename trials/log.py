@@ -221,6 +221,48 @@ def strangers(folder, log):
     log.find("connections_ended", count="68")
 
 
+@case
+def logins_that_are_refused(folder, log):
+    """Of as many as whoever comes likes few are told; those of connections that end have lines of their own."""
+    with Array([disk(folder)], log=log.path) as array:
+        for _ in range(100):
+            is_so("no such target", refusal(target=TARGET + "x"), 0x203)
+        socket.create_connection(("127.0.0.1", PORT)).close()
+        login().logout()
+        log.find("session_ended", why="logout")
+        array.quit()
+    is_so("told one by one", log.events().count("login_refused"), 32)
+    log.find("logins_refused", count="68")
+    log.find("connection_ended")
+    is_so("nothing else", "connections_ended" in log.events(), False)
+
+
+@case
+def connections_that_are_pushed_out(folder, log):
+    with Array([disk(folder)], log=log.path) as array:
+        guest = Session("127.0.0.1", PORT, None, "iqn.2000-01.test:guest")
+        waiting = [socket.create_connection(("127.0.0.1", PORT)) for _ in range(128)]
+        log.find("session_ended", why="too_many_wait", tsih=str(guest.tsih))
+        login(2).logout()
+        log.find("connection_ended", why="too_many_wait", **{"from": "%s:%d" % waiting[0].getsockname()})
+        for peer in waiting:
+            peer.close()
+        array.quit()
+
+
+@case
+def orders_by_the_control_socket(folder, log):
+    with Array([disk(folder)], log=log.path, more={"ARRAYD_CONTROL": folder + "/control"}) as array:
+        for line in (b"status\n", b"end 9\n", b"down 1\n", b"up 1\n", b"acknowledge\n", b"no\x1b\n"):
+            with socket.socket(socket.AF_UNIX) as peer:
+                peer.connect(folder + "/control")
+                peer.sendall(line)
+                peer.recv(100)
+        array.quit()
+    is_so("the orders", [(line["by"], line["line"]) for line in log.all() if line["event"] == "order"],
+          [("control", line) for line in ("end 9", "down 1", "up 1", "acknowledge")])
+
+
 # ---- units
 
 @case

@@ -117,7 +117,7 @@ def console(machine):
     check("a stranger may neither", as_user("stranger", STATUS)[0] == 3 and as_user("stranger", f"{CONSOLE} status")[0] == 3)
     check("a keeper may take a controller down", as_user("keeper", f"{CONSOLE} down 2") == (0, "down"))
     check("and ask by the control socket", as_user("keeper", f"{CONSOLE} version")[1].startswith("arrayd "), as_user("keeper", f"{CONSOLE} version"))
-    enters = "cat /run/arrayd/one/late; socat -u OPEN:/dev/null UNIX-CONNECT:/run/arrayd/one/control"
+    enters = "ls /run/arrayd/one; socat -u OPEN:/dev/null UNIX-CONNECT:/run/arrayd/one/control"
     check("nobody else enters the folder", all(as_user(user, "sh -c '" + word + "'")[0] != 0 for user in ("watcher", "stranger")
                                                for word in enters.split("; ")))
     check("which the status tells", as_user("watcher", STATUS)[1].count("states 0 3") == 2, as_user("watcher", STATUS))

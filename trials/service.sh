@@ -1,6 +1,6 @@
 #!/bin/sh
 # Runs the array as a service does, by the service's own scripts and without systemd: starts it, asks `status`, takes a controller
-# down, stops it by `quit`, starts it anew, ends it by SIGTERM; all by the FIFOs of its console. Then who may only look, what is told of
+# down, stops it by `quit`, starts it anew, ends it by SIGTERM; all by its control socket. Then who may only look, what is told of
 # its health, and what systemd is told of its disks and hosts; and what checks the service's files, where it is installed:
 # systemd-analyze, mandoc. Ends with status 1 where something is not as it has to be.
 #
@@ -48,8 +48,8 @@ truncate -s 8M "$place/disk0" "$place/disk1"
 ln -s "$place/disk0" "$place/state/unit0"
 ln -s "$place/disk1" "$place/state/unit1"
 
-is 'nobody answers before it is started' "$(console status; echo $?)" "arrayd-console: [Errno 2] No such file or directory: '$place/run/told'
-3"
+is 'nobody answers before it is started' "$(console status; echo $?)" 'arrayd-console: no array is there
+3'
 begin unit0 unit1
 is 'it answers status, a line a unit' "$(sed 's/ entries.*//' "$place/status")" \
     'unit 0 owner 1 states 0 1 generation 0 keys 0 type 0
@@ -58,7 +58,6 @@ is 'down 1' "$(console down 1)" down
 is 'and the other controller owns both units' "$(console status | sed 's/ generation.*//')" 'unit 0 owner 2 states 3 0
 unit 1 owner 2 states 3 0'
 is 'a line that it does not know is not asked' "$(console up 3 > "$place/up"; echo $?)" 2
-is 'nor one of the control socket, where there is none' "$(console up 1 > "$place/up"; echo $?)" 3
 is 'two that ask at once each get their own answer' "$(for i in 1 2 3 4 5 6 7 8; do console status & done | grep -c '^unit [01] owner 2')" 16
 echo status > "$place/run/console"
 is 'what an echo has asked is not taken for an answer' "$(console down 1)" down
@@ -136,7 +135,6 @@ ln -s "$place/target" "$place/linked/console"
 is 'a console that is a link is none' "$(service/arrayd-console "$place/linked" quit 2> /dev/null; echo $?) $(cat "$place/target")" '3 stays'
 
 # what may be asked by who may only look, and what the watch tells
-export ARRAYD_CONTROL="$place/run/control"
 begin unit0 unit1
 # as systemd does: it holds the socket, and starts anew what has ended
 python3 - "$place/run" << 'END' &

@@ -368,7 +368,7 @@ def failure_that_is_acknowledged(folder):
         is_so("the read", end_of(session.command(0, [0x28, 0, 0, 0, 0, 9, 0, 0, 1, 0], expected=512)), "03 11/00")
         wrong(0, "calls_failed")
         failing.stop()
-        is_so("seen", said_by(control, "acknowledge"), b"acknowledged\n")
+        is_so("seen", said_by(control, "acknowledge"), b"acknowledged\n. 0\n")
         over(0, "disk", "read", "EIO")
         session.write(1, 0, bytes(512))
         failing.let("fdatasync", errno.EIO)

@@ -6,7 +6,9 @@ mod portals;
 mod served;
 mod timed;
 
-pub use array_administration::{Administration, Operations, bind_window, console, give_to_owner};
+pub use array_administration::{
+    Administration, Attended, Operations, bind_window, console, give_to_owner,
+};
 pub use array_operations::Operated;
 pub use disks::{FileArray, OpenArray, open};
 pub use served::{serve, tell_want};

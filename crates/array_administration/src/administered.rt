@@ -30,8 +30,15 @@ pub trait Administered {
     /// Writes a line for each unit.
     fn say_status<R: Wait + Clock, W: Write>(&self, rt: &R, writer: &mut W) -> io::Result<()>;
 
+    /// Takes a controller down. The first unit that does not move is told.
+    fn down<R: Wait + Clock>(&self, rt: &R, controller: Group) -> Result<(), usize>;
+
     /// Brings a controller up. The first unit that does not move is told.
     fn up<R: Wait + Clock>(&self, rt: &R, controller: Group) -> Result<(), usize>;
+
+    /// From now on no command is taken in; all that each unit holds is made to last, as far as it can. The first unit of which it cannot
+    /// is told.
+    fn quit<R: Wait + Clock>(&self, rt: &R) -> Result<(), u8>;
 
     /// Ends the connection of the session with this TSIH, where one lives: whether one does.
     fn shut<R: Wait>(&self, rt: &R, tsih: u16) -> bool;

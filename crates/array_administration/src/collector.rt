@@ -27,8 +27,8 @@ struct Fixed {
 
 /// What collects the state of the array while it is served.
 pub(crate) struct ArrayCollector<R: Wait + Clock + Drop, A: Administered + Drop> {
-    rt: R,
-    array: Arc<A, Global>,
+    pub(crate) rt: R,
+    pub(crate) array: Arc<A, Global>,
     fixed: Fixed,
     // When it began to be served: since the beginning of 1970, and by the clock that never goes back.
     began_1970: Duration,
@@ -279,6 +279,11 @@ impl<R: Wait + Clock + Drop, A: Administered + Drop> ArrayCollector<R, A> {
             began_1970,
             began,
         })
+    }
+
+    /// The version of the program.
+    pub(crate) fn version(&self) -> &'static str {
+        self.fixed.version
     }
 
     // What is counted now. A log beside a window always counts.

@@ -1,11 +1,11 @@
-//! The control socket: lines for what the console's rules leave no room for.
+//! The control socket: where it lies, and the connections that come to it.
 
 use crate::administered::Administered;
-use crate::lines::text_of;
+use crate::answers::Answers;
+use crate::collector::ArrayCollector;
 use command_line::Fault;
 use event_log::{Event, Log};
-use scsi_types::Group;
-use std::alloc::{AllocError, Global};
+use std::alloc::Global;
 use std::fs::{self, File, Permissions};
 use std::io::{self, BufRead, BufReader, ErrorKind, Read, Write};
 use std::net::Net;
@@ -15,10 +15,12 @@ use std::rt::Files;
 use std::sync::{Arc, Wait};
 use std::thread::{self, Builder, JoinHandle, Threads};
 use std::time::{Clock, Duration};
-use window::{Registration, SessionView};
 
 /// Its owner may read and write.
 const OWNER_ALONE: u32 = 0o600;
+
+/// So many connections are attended to at once, by a thread each: a line that waits for a disk holds up no other connection.
+const ATTENDANTS: u32 = 8;
 
 /// For so many seconds may a connection be silent, or take nothing.
 const PATIENCE: u64 = 10;
@@ -26,208 +28,56 @@ const PATIENCE: u64 = 10;
 /// A connection is read so many bytes, and closed then.
 const MOST: u64 = 65536;
 
-/// So many milliseconds the accept loop rests where no connection could be accepted.
+/// So many milliseconds an accept loop rests where no connection could be accepted.
 const REST: u64 = 100;
 
-/// So many milliseconds lie between two looks whether a session is over that was ended, and so often is looked.
-const LOOK: u64 = 5;
-
-const LOOKS: u32 = 1000;
-
-/// What the stack of its thread takes.
+/// What the stack of a thread takes.
 const STACK: usize = 256 * 1024;
 
 /// More connections than wait at any socket, which is the most that is looked for before the socket was its owner's alone.
 const STRANGERS: u32 = 1 << 24;
 
-const HELP: &str = "status      a line for each unit
-acknowledge ends what failed, but for flushes, as seen
-sessions    a line for each session that is logged in
-keys U      a line for each registration of a unit
-end TSIH    ends a session
-up 1, up 2  gives a controller the units back that prefer it
-version     the version of the program
-help        these lines
-";
-
-// The control socket's way to an array that is served.
+// The control socket of an array that is served, which its threads share.
 struct ControlSocket<R: Wait + Clock + Drop, A: Administered + Drop> {
-    rt: R,
-    version: &'static str,
-    array: Arc<A, Global>,
+    answers: Answers<R, A>,
+    listener: UnixListener,
 }
 
 impl<R: Wait + Clock + Drop, A: Administered + Drop> Drop for ControlSocket<R, A> {
     fn drop(self) {
         let Self {
-            rt: _,
-            version: _,
-            array: _,
+            answers: _,
+            listener: _,
         } = self;
     }
 }
 
-// Writes a line for a session. The name of its initiator, which a host chose, stands last and between quotes.
-fn say_session<W: Write>(writer: &mut W, session: &SessionView) -> io::Result<()> {
-    let (tsih, controller, kind) = (session.tsih, session.controller, session.kind);
-    write!(
-        writer,
-        "session {tsih} controller {controller} type {kind} "
-    )?;
-    let (isid, peer, portal) = (
-        session.isid.as_str(),
-        session.peer.as_str(),
-        session.portal.as_str(),
-    );
-    write!(writer, "isid {isid} peer {peer} portal {portal} ")?;
-    let (since, commands) = (session.since, session.commands);
-    let last = session.last_command.unwrap_or("none");
-    write!(writer, "since {since} commands {commands} last {last} ")?;
-    let initiator = session.spelled.as_str();
-    writeln!(writer, "initiator \"{initiator}\"")
-}
-
-// Writes a line for a registration. The name of its initiator, which a host chose, stands last and between quotes.
-fn say_key<W: Write>(writer: &mut W, registration: &Registration) -> io::Result<()> {
-    let (key, controller) = (registration.key.as_str(), registration.controller);
-    let (isid, kind) = (registration.isid.as_str(), registration.reservation_type);
-    write!(
-        writer,
-        "key {key} controller {controller} isid {isid} holds {kind} "
-    )?;
-    let initiator = registration.spelled.as_str();
-    writeln!(writer, "initiator \"{initiator}\"")
-}
-
 impl<R: Wait + Clock + Drop, A: Administered + Drop> ControlSocket<R, A> {
-    // The sessions that are logged in.
-    fn sessions(&self, alloc: Global) -> Result<Vec<SessionView>, AllocError> {
-        let now = self.rt.monotonic().unwrap_or(Duration::ZERO);
-        let mut sessions = Vec::new(alloc);
-        if let Some(meters) = self.array.log().meters() {
-            for seen in &meters.look(&self.rt, alloc, now)?.sessions {
-                sessions.push(window::session(alloc, seen)?)?;
-            }
-        }
-        Ok(sessions)
-    }
-
-    fn say_sessions<W: Write>(&self, alloc: Global, writer: &mut W) -> io::Result<()> {
-        for session in &self.sessions(alloc)? {
-            say_session(writer, session)?;
-        }
-        Ok(())
-    }
-
-    // What has failed was seen by an administrator.
-    fn acknowledge<W: Write>(&self, writer: &mut W) -> io::Result<()> {
-        if let Some(meters) = self.array.log().meters() {
-            meters.acknowledge();
-        }
-        writer.write_all(b"acknowledged\n")
-    }
-
-    fn say_version<W: Write>(&self, writer: &mut W) -> io::Result<()> {
-        let version = self.version;
-        writeln!(writer, "arrayd {version}")
-    }
-
-    // Whether a session is over, for which it waits for a while: from then on no command of it reaches a unit.
-    fn is_over(&self, tsih: u16) -> bool {
-        for _ in 0..LOOKS {
-            if !self.array.lives(&self.rt, tsih) {
-                return true;
-            }
-            thread::sleep(&self.rt, Duration::from_millis(LOOK));
-        }
-        false
-    }
-
-    // Ends a session, and writes what became of it.
-    fn say_end<W: Write>(&self, writer: &mut W, tsih: u16) -> io::Result<()> {
-        if !self.array.shut(&self.rt, tsih) {
-            writeln!(writer, "no session")
-        } else if self.is_over(tsih) {
-            writeln!(writer, "ended")
-        } else {
-            writeln!(writer, "ending")
-        }
-    }
-
-    fn say_up<W: Write>(&self, writer: &mut W, controller: Group) -> io::Result<()> {
-        match self.array.up(&self.rt, controller) {
-            Ok(()) => writeln!(writer, "up"),
-            Err(unit) => writeln!(writer, "not moved {unit}"),
-        }
-    }
-
-    // Writes the registrations of a unit.
-    fn say_keys<W: Write>(&self, alloc: Global, writer: &mut W, unit: u8) -> io::Result<()> {
-        let place = usize::from(unit);
-        if place >= self.array.count() {
-            return writeln!(writer, "no unit");
-        }
-        let Some(registrations) = self.array.registrations(alloc, place) else {
-            return writeln!(writer, "busy");
-        };
-        for registration in &registrations {
-            say_key(writer, registration)?;
-        }
-        Ok(())
-    }
-
-    // Answers a line whose second word is a number, or that is none of those that there are.
-    fn say_numbered<W: Write>(&self, alloc: Global, writer: &mut W, text: &str) -> io::Result<()> {
-        if let Some(number) = text.strip_prefix("keys ")
-            && let Ok(unit) = number.parse::<u8>()
-        {
-            return self.say_keys(alloc, writer, unit);
-        }
-        if let Some(number) = text.strip_prefix("end ")
-            && let Ok(tsih) = number.parse::<u16>()
-        {
-            return self.say_end(writer, tsih);
-        }
-        writeln!(writer, "?")
-    }
-
-    // Answers a line.
-    fn answer<W: Write>(&self, alloc: Global, writer: &mut W, line: &[u8]) -> io::Result<()> {
-        match text_of(line) {
-            Some("status") => self.array.say_status(&self.rt, writer),
-            Some("up 1") => self.say_up(writer, Group::One),
-            Some("up 2") => self.say_up(writer, Group::Two),
-            Some("acknowledge") => self.acknowledge(writer),
-            Some("sessions") => self.say_sessions(alloc, writer),
-            Some("version") => self.say_version(writer),
-            Some("help") => writer.write_all(HELP.as_bytes()),
-            Some(text) => self.say_numbered(alloc, writer, text),
-            None => writer.write_all(b"?\n"),
-        }
-    }
-
-    // Answers the lines of a connection, until its end.
+    // Answers the lines of a connection, until its end. Behind the answer to one that ends the array the program ends.
     fn attend(&self, alloc: Global, stream: &UnixStream) -> io::Result<()> {
         let patience = Some(Duration::from_secs(PATIENCE));
         stream.set_read_timeout(patience)?;
         stream.set_write_timeout(patience)?;
         let mut writer = stream;
         for line in BufReader::new(alloc, stream.take(MOST))?.split(alloc, b'\n') {
+            let line = line?;
             let mut answer = Vec::new(alloc);
-            self.answer(alloc, &mut answer, &line?)?;
-            writer.write_all(&answer)?;
+            let answered = self.answers.answer(alloc, &mut answer, &line);
+            let sent = writer.write_all(&answer);
+            self.answers.leave(&line);
+            answered.and(sent)?;
         }
         Ok(())
     }
 
     // Attends to one connection after another.
-    fn accept(&self, alloc: Global, listener: &UnixListener) {
-        for stream in listener.incoming() {
+    fn accept(&self, rt: &R, alloc: Global) {
+        for stream in self.listener.incoming() {
             match stream {
                 Ok(stream) => {
                     let _ = self.attend(alloc, &stream);
                 }
-                Err(_) => thread::sleep(&self.rt, Duration::from_millis(REST)),
+                Err(_) => thread::sleep(rt, Duration::from_millis(REST)),
             }
         }
     }
@@ -323,23 +173,25 @@ pub fn remove(rt: &impl Files, path: Option<&str>) {
     }
 }
 
-/// Answers at the control socket, by a thread of its own, for an array that is served.
+/// Answers at the control socket, by threads of its own, by what this collects of an array that is served.
 pub(crate) fn answer<
     R: Threads + Wait + Clock + Clone + Drop + Send + Sync + 'static,
     A: Administered + Drop + Send + Sync + 'static,
 >(
     rt: &R,
     alloc: Global,
-    version: &'static str,
-    array: &Arc<A, Global>,
+    collector: ArrayCollector<R, A>,
     listener: UnixListener,
 ) -> io::Result<()> {
     let control = ControlSocket {
-        rt: rt.clone()?,
-        version,
-        array: Arc::try_clone(array)?,
+        answers: Answers { collector },
+        listener,
     };
-    let work = move || control.accept(alloc, &listener);
-    let _thread: JoinHandle<()> = Builder::new().stack_size(STACK).spawn(rt, work)?;
+    let control = Arc::new(alloc, control)?;
+    for _ in 0..ATTENDANTS {
+        let (shared, mine) = (Arc::try_clone(&control)?, rt.clone()?);
+        let work = move || shared.accept(&mine, alloc);
+        let _thread: JoinHandle<()> = Builder::new().stack_size(STACK).spawn(rt, work)?;
+    }
     Ok(())
 }

@@ -3,12 +3,15 @@
 #![tactic(auto)]
 
 mod administered;
+mod answers;
+mod attended;
 mod collector;
 mod control;
 mod lines;
 mod sockets;
 
 pub use administered::Administered;
+pub use attended::Attended;
 pub use control::{give_to_owner, remove};
 pub use lines::{Operations, console, say_status};
 pub use sockets::{Administration, Sockets, answer, bind_window, control_path, open};

@@ -53,10 +53,14 @@ pub fn say_status<W: Write, A: Operations>(writer: &mut W, array: &mut A) -> io:
     Ok(())
 }
 
-// Writes what became of a controller that was to go down.
-fn say_down<W: Write>(writer: &mut W, end: Result<(), usize>) -> io::Result<()> {
+/// Writes what became of a controller that was to go down or to come up: this word, or the first unit that did not move.
+pub(crate) fn say_moved<W: Write>(
+    writer: &mut W,
+    word: &str,
+    end: Result<(), usize>,
+) -> io::Result<()> {
     match end {
-        Ok(()) => writeln!(writer, "down"),
+        Ok(()) => writeln!(writer, "{word}"),
         Err(unit) => writeln!(writer, "not moved {unit}"),
     }
 }
@@ -85,8 +89,8 @@ pub fn console<I: BufRead + Drop, W: Write, A: Operations>(
         let said = match text_of(&line) {
             Some("quit") => break,
             Some("status") => say_status(writer, array),
-            Some("down 1") => say_down(writer, array.down(Group::One)),
-            Some("down 2") => say_down(writer, array.down(Group::Two)),
+            Some("down 1") => say_moved(writer, "down", array.down(Group::One)),
+            Some("down 2") => say_moved(writer, "down", array.down(Group::Two)),
             _ => writeln!(writer, "?"),
         };
         if said.is_err() {

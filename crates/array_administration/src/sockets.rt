@@ -5,9 +5,8 @@ use crate::collector::ArrayCollector;
 use crate::control;
 use command_line::{Fault, Options};
 use event_log::{Event, Log, start_ticks};
-use std::alloc::Global;
+use std::alloc::{AllocError, Global};
 use std::fs::File;
-use std::io;
 use std::net::{Net, SocketAddrV4, TcpListener, TcpStream};
 use std::os::unix::net::UnixListener;
 use std::random::RandomSource;
@@ -93,9 +92,9 @@ pub fn open<R: Files<File = File> + Net + Clock>(
     })
 }
 
-// Opens the window, which collects of an array that is served.
-fn open_window<
-    R: Threads + Wait + Clock + RandomSource + Clone + Drop + Send + Sync + 'static,
+// What collects of an array that is served.
+fn collector_of<
+    R: Wait + Clock + Clone + Drop + Send + Sync + 'static,
     A: Administered + Drop + Send + Sync + 'static,
 >(
     rt: &R,
@@ -103,11 +102,8 @@ fn open_window<
     options: &Options<'_>,
     version: &'static str,
     array: &Arc<A, Global>,
-    listener: TcpListener,
-) -> io::Result<()> {
-    let array = Arc::try_clone(array)?;
-    let collector = ArrayCollector::new(rt.clone()?, alloc, options, version, array)?;
-    window::open(rt, alloc, listener, collector)
+) -> Result<ArrayCollector<R, A>, AllocError> {
+    ArrayCollector::new(rt.clone()?, alloc, options, version, Arc::try_clone(array)?)
 }
 
 /// Answers at both sockets, by threads of their own, for an array that is served.
@@ -129,15 +125,17 @@ pub fn answer<
     if (http.is_some() || control.is_some()) && start_ticks(rt, array.log()).is_err() {
         return Err(Fault::NoMemory);
     }
-    if let Some(listener) = http
-        && open_window(rt, alloc, options, version, array, listener).is_err()
-    {
-        return Err(Fault::NoMemory);
+    if let Some(listener) = http {
+        let collector = collector_of(rt, alloc, options, version, array)?;
+        if window::open(rt, alloc, listener, collector).is_err() {
+            return Err(Fault::NoMemory);
+        }
     }
-    if let Some(listener) = control
-        && control::answer(rt, alloc, version, array, listener).is_err()
-    {
-        return Err(Fault::NoMemory);
+    if let Some(listener) = control {
+        let collector = collector_of(rt, alloc, options, version, array)?;
+        if control::answer(rt, alloc, collector, listener).is_err() {
+            return Err(Fault::NoMemory);
+        }
     }
     Ok(())
 }

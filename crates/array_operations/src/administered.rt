@@ -2,7 +2,7 @@
 
 use crate::operated::{Operated, row_at};
 use crate::registrations::registrations;
-use array_administration::{Administered, say_status};
+use array_administration::{Administered, Operations, say_status};
 use block_file::{Blocks, Opener};
 use event_log::Log;
 use portal::{Controllers, Server};
@@ -64,8 +64,18 @@ impl<B: Blocks, F: Blocks, O: Opener<B>, N: Namings<Opened>, G: Drop> Administer
         say_status(writer, &mut operated(rt, &self.server))
     }
 
+    fn down<R: Wait + Clock>(&self, rt: &R, controller: Group) -> Result<(), usize> {
+        operated(rt, &self.server).down(controller)
+    }
+
     fn up<R: Wait + Clock>(&self, rt: &R, controller: Group) -> Result<(), usize> {
         operated(rt, &self.server).up(controller)
+    }
+
+    fn quit<R: Wait + Clock>(&self, rt: &R) -> Result<(), u8> {
+        let mut operated = operated(rt, &self.server);
+        operated.close();
+        operated.flush()
     }
 
     fn shut<R: Wait>(&self, rt: &R, tsih: u16) -> bool {

@@ -146,6 +146,13 @@ impl<R: Wait + Clock, B: Blocks, F: Blocks, O: Opener<B>, N: Namings<Opened>> Op
     O,
     N,
 > {
+    // Tells of the end of the array: once, where an administrator has ended it by the control socket.
+    fn tell_end(&self, event: &Event<'_>) {
+        if !self.log.has_quit() {
+            self.log.tell(self.rt, event);
+        }
+    }
+
     // One who moves the units, and tells of it.
     fn mover(&self) -> ToldMoves<'_, R, Mover<'_, B, F, O, N>>
         ensures { result.mover.asked ≡ [] }
@@ -183,7 +190,7 @@ impl<R: Wait + Clock, B: Blocks, F: Blocks, O: Opener<B>, N: Namings<Opened>> Op
     }
 
     fn close(&mut self) {
-        self.log.tell(self.rt, &Event::Stopping);
+        self.tell_end(&Event::Stopping);
         self.controllers.close(self.rt);
     }
 
@@ -192,7 +199,7 @@ impl<R: Wait + Clock, B: Blocks, F: Blocks, O: Opener<B>, N: Namings<Opened>> Op
         let mut end = Ok(());
         for place in 0..units.count() {
             if units.flush(self.rt, place).is_err() {
-                self.log.tell(self.rt, &Event::NotFlushed(number(place)));
+                self.tell_end(&Event::NotFlushed(number(place)));
                 end = end.and(Err(number(place)));
             }
         }

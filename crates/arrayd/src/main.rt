@@ -13,7 +13,7 @@ mod target_name;
 mod told;
 
 use administration::Asked;
-use array::{open, open_files, serve, serve_timed, tell_want};
+use array::{Attended, open, open_files, serve, serve_timed, tell_want};
 use command_line::{Fault, MAX_UNITS, Options};
 use event_log::{Event, Log, start};
 use log_file::LogFile;
@@ -229,7 +229,8 @@ fn main(rt: HostRuntime) -> ExitCode {
             Ok(parts) => parts,
             Err(fault) => return give_up(&rt, &log, fault, &options, asked),
         };
-        let (reader, mut writer) = (rt.reader(), io::writer(&rt));
+        let reader = Attended::new(rt.reader(), &log);
+        let mut writer = io::writer(&rt);
         let served = serve_timed(
             &rt,
             alloc,
@@ -254,7 +255,7 @@ fn main(rt: HostRuntime) -> ExitCode {
         array,
         &log,
         administration,
-        rt.reader(),
+        Attended::new(rt.reader(), &log),
         &mut io::writer(&rt),
     );
     status_of_end(&rt, served, &options, asked)

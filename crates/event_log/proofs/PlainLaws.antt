@@ -209,6 +209,7 @@ why (whys.Rejected reason opcode tag) =
     both _ _ (hexed reason) (both _ _ (reject_plain reason) (both _ _ (hexed opcode) (both _ _ (hexed tag) refl)))
 why whys.Gap = refl
 why whys.NoMemory = refl
+why whys.PushedOut = refl
 
 session : (who : Initiator) (group : ℕ) → all_plain (session_in who group) ≡ true
 session who group = both _ _ (number group) (initiator who [] refl)
@@ -236,6 +237,8 @@ each (events.SessionEnded who by tsih end) =
     initiator who (path_in by rest) (path by rest (both _ _ (number tsih) (why end)))
 each (events.ConnectionEnded by end) = path by (why_in end) (why end)
 each (events.ConnectionsEnded count) = both _ _ (number count) refl
+each (events.LoginsRefused count) = both _ _ (number count) refl
+each (events.Ordered what) = both _ _ (quoted_plain what.now) refl
 each (events.GroupsSet unit group first second by) =
     both _ _ (number unit) (both _ _ (number group) (both _ _ (access_plain first) (both _ _ (access_plain second) (by_plain by))))
 each (events.NotMoved unit group end by) =

@@ -101,6 +101,7 @@ why_in (whys.Rejected reason opcode tag) =
     ∷ codes "\" opcode=0x" ∷ hex opcode ∷ codes " task=0x" ∷ hex tag ∷ []
 why_in whys.Gap = codes " why=protocol_error words=\"CmdSN leaves a gap\"" ∷ []
 why_in whys.NoMemory = codes " why=no_memory" ∷ []
+why_in whys.PushedOut = codes " why=too_many_wait" ∷ []
 
 -- a session at a unit: the tag of its group, and its initiator port
 abbrev pub session_in : Initiator → ℕ → List (List ℕ)
@@ -161,6 +162,8 @@ parts (events.SessionEnded who path tsih why) =
     codes "event=session_ended" ∷ initiator_in who (path_in path (codes " tsih=" ∷ decimal tsih ∷ why_in why))
 parts (events.ConnectionEnded path why) = codes "event=connection_ended" ∷ path_in path (why_in why)
 parts (events.ConnectionsEnded count) = codes "event=connections_ended count=" ∷ decimal count ∷ []
+parts (events.LoginsRefused count) = codes "event=logins_refused count=" ∷ decimal count ∷ []
+parts (events.Ordered what) = codes "event=order by=control line=" ∷ quoted what.now ∷ []
 parts (events.GroupsSet unit group first second by) = set_in unit group first second (by_in by)
 parts (events.NotMoved unit group why by) = stay_in unit group why (by_in by)
 parts (events.Reserved unit asked who group) =

@@ -71,6 +71,10 @@ pub enum Event<'a> {
     ConnectionEnded(Path, Why),
     /// So many more ended so, of which no line tells.
     ConnectionsEnded(u64),
+    /// So many more logins were refused, of which no line tells.
+    LoginsRefused(u64),
+    /// An administrator told the array this line by the control socket, which is no mere question.
+    Ordered(&'a [u8]),
     /// The access states of a unit's groups were set: the tag of the one that is active/optimized now, and the states of both.
     GroupsSet(u8, u16, Access, Access, By<'a>),
     /// A unit was to move to a group, and stayed.

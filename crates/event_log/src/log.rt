@@ -38,8 +38,9 @@ pub(crate) struct Waiting {
     pub(crate) lines: String,
     // The line that is spelled.
     line: String,
-    // Connections that end without a login.
+    // Connections that end without a login, and logins that are refused.
     pub(crate) strangers: Strangers,
+    pub(crate) refused: Strangers,
 }
 
 /// What all hands that hold a log share.
@@ -63,17 +64,18 @@ impl Waiting {
             lines: String::with_capacity(alloc, ROOM)?,
             line: String::with_capacity(alloc, UNTIMED)?,
             strangers: Strangers::none(),
+            refused: Strangers::none(),
         })
     }
 
     // Keeps the line of an event, or counts it among those of which one line tells. False: there was no room for it.
     fn take(&mut self, now: Duration, event: &Event<'_>) -> bool {
-        if let Event::ConnectionEnded(..) = event
-            && !self.strangers.is_told(now.as_secs())
-        {
-            return true;
-        }
-        self.keep(event)
+        let is_told = match event {
+            Event::ConnectionEnded(..) => self.strangers.is_told(now.as_secs()),
+            Event::LoginRefused(..) => self.refused.is_told(now.as_secs()),
+            _ => true,
+        };
+        !is_told || self.keep(event)
     }
 
     // Keeps the line of an event without its time. False: there was no room for it.
@@ -199,6 +201,14 @@ impl Log {
     fn count(&self, event: &Event<'_>) {
         if let Some(meters) = &self.meters {
             meters.happened(event);
+        }
+    }
+
+    /// Whether an administrator has ended the array, where that is counted.
+    pub fn has_quit(&self) -> bool {
+        match &self.meters {
+            Some(meters) => meters.has_quit(),
+            None => false,
         }
     }
 

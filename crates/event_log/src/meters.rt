@@ -78,6 +78,8 @@ pub struct Meters {
     units: usize,
     book: Mutex<Book>,
     happened: Ledger,
+    // How often an administrator has ended the array by the control socket, and was told how that went.
+    quits: AtomicU64,
     // What the clock said when it was looked at last, in microseconds of the one that never goes back: several times a second, so that
     // a command that begins, or a call that fails, has a time and no look of its own.
     ticks: Arc<AtomicU64, Global>,
@@ -260,6 +262,7 @@ impl Meters {
             units,
             book: Mutex::new(book),
             happened: Ledger::new(alloc, units)?,
+            quits: AtomicU64::new(0),
             ticks: Arc::new(alloc, AtomicU64::new(0))?,
         })
     }
@@ -309,6 +312,16 @@ impl Meters {
     /// Ends what of the calls that failed an administrator has seen, but for flushes: nothing but a restart makes these well.
     pub fn acknowledge(&self) {
         self.happened.acknowledge(self.now());
+    }
+
+    /// An administrator has ended the array, and was told how that went.
+    pub fn quit(&self) {
+        let _ = self.quits.fetch_add(1, Ordering::SeqCst);
+    }
+
+    /// Whether one has.
+    pub fn has_quit(&self) -> bool {
+        self.quits.load(Ordering::SeqCst) != 0
     }
 
     /// A session begins: what its worker counts by.

@@ -119,6 +119,7 @@ fn why(line: &mut String, why: Why) -> Result<(), AllocError>
         Why::Rejected(reason, opcode, task) => rejected(line, reason, opcode, task),
         Why::Gap => line.push_str(" why=protocol_error words=\"CmdSN leaves a gap\""),
         Why::NoMemory => line.push_str(" why=no_memory"),
+        Why::PushedOut => line.push_str(" why=too_many_wait"),
     }
 }
 
@@ -447,6 +448,8 @@ pub fn spell(line: &mut String, event: &Event<'_>) -> Result<(), AllocError>
             why(line, *end)
         }
         Event::ConnectionsEnded(count) => counted(line, "event=connections_ended count=", *count),
+        Event::LoginsRefused(count) => counted(line, "event=logins_refused count=", *count),
+        Event::Ordered(what) => put(line, &[Text("event=order by=control line="), Name(what)]),
         Event::GroupsSet(unit, group, first, second, whom) => {
             set(line, *unit, *group, *first, *second)?;
             by(line, whom)

@@ -44,6 +44,8 @@ pub enum Why {
     Gap,
     /// There was no memory for the session.
     NoMemory,
+    /// Another one came, and as many as may were waiting for the end of their login already.
+    PushedOut,
 }
 
 /// Why a unit stayed.

@@ -80,14 +80,18 @@ fn take<R: Wait + Clock>(rt: &R, shared: &Shared, lines: &mut String, is_last: b
     let since = rt.since_1970().unwrap_or(Duration::ZERO);
     let now = Stamp::of(since);
     lines.clear();
-    let (untold, ended) = {
+    let (untold, ended, refused) = {
         let mut waiting = shared.waiting.lock(rt);
         let untold = waiting.give_time(now);
         mem::swap(&mut waiting.lines, lines);
-        (untold, waiting.strangers.sum(since.as_secs(), is_last))
+        let ended = waiting.strangers.sum(since.as_secs(), is_last);
+        (untold, ended, waiting.refused.sum(since.as_secs(), is_last))
     };
     if ended != 0 {
         let _ = put_line(lines, now, &Event::ConnectionsEnded(ended));
+    }
+    if refused != 0 {
+        let _ = put_line(lines, now, &Event::LoginsRefused(refused));
     }
     let dropped = shared
         .dropped

@@ -2,6 +2,7 @@
 
 use crate::connection::Connection;
 use crate::logins::LoginPlace;
+use crate::observer::Observer;
 use session::{Source, Unread};
 use std::sync::Wait;
 use std::time::{Clock, Duration};
@@ -12,6 +13,7 @@ pub struct LimitedSource<'a, R: Wait + Clock, S, C: Connection + Drop> {
     rt: &'a R,
     connection: &'a C,
     place: &'a LoginPlace<'a, R, C>,
+    observer: &'a Observer<'a, R>,
     // By the clock, where it tells anything.
     began: Option<Duration>,
     // In seconds.
@@ -25,6 +27,7 @@ impl<R: Wait + Clock, S: Drop, C: Connection + Drop> Drop for LimitedSource<'_, 
             rt: _,
             connection: _,
             place: _,
+            observer: _,
             began: _,
             limit: _,
         } = self;
@@ -32,12 +35,14 @@ impl<R: Wait + Clock, S: Drop, C: Connection + Drop> Drop for LimitedSource<'_, 
 }
 
 impl<'a, R: Wait + Clock, S, C: Connection + Drop> LimitedSource<'a, R, S, C> {
-    /// The source of a connection whose login begins now, and has so many seconds. Behind it the connection leaves this place.
+    /// The source of a connection whose login begins now, and has so many seconds. Behind it the connection leaves this place, unless it is
+    /// that of a discovery session, as this one is told who looks at it.
     pub fn new(
         inner: S,
         rt: &'a R,
         connection: &'a C,
         place: &'a LoginPlace<'a, R, C>,
+        observer: &'a Observer<'a, R>,
         limit: u64,
     ) -> LimitedSource<'a, R, S, C> {
         LimitedSource {
@@ -45,6 +50,7 @@ impl<'a, R: Wait + Clock, S, C: Connection + Drop> LimitedSource<'a, R, S, C> {
             rt,
             connection,
             place,
+            observer,
             began: rt.monotonic().ok(),
             limit,
         }
@@ -76,10 +82,10 @@ impl<R: Wait + Clock, S: Source, C: Connection + Drop> Source for LimitedSource<
 
     fn read_some(&mut self, buf: &mut [u8], may_be_silent: bool) -> Result<usize, Unread> {
         // Only a login may not be silent.
-        if may_be_silent {
-            self.place.leave();
-        } else {
+        if !may_be_silent {
             self.hurry();
+        } else if !self.observer.is_discovery() {
+            self.place.leave();
         }
         self.inner.read_some(buf, may_be_silent)
     }

@@ -1,4 +1,4 @@
-//! The connections whose login is not over.
+//! The connections whose login is not over, and those of discovery sessions, which whoever comes may begin as many of as he likes.
 ghost use Rattle.std.specs.Prelude.{◌≡◌, ◌+◌, IfSome};
 
 use crate::connection::Connection;
@@ -8,8 +8,8 @@ use std::cell::Cell;
 use std::marker::Model;
 use std::sync::{Mutex, Wait};
 
-/// So many connections wait for the end of their login. Where one more comes, the one that has waited longest is closed: so nobody shuts
-/// hosts out by connections that do not log in.
+/// So many connections wait for the end of their login, or are those of discovery sessions. Where one more comes, the one that came first
+/// is closed: so nobody shuts hosts out by connections that do not log in.
 const LOGINS: usize = 128;
 
 /// So many threads serve such connections, with those whose connection was closed; where one more would be needed, it is closed at once.
@@ -22,8 +22,8 @@ struct Waiting<C> {
     connection: C,
 }
 
-/// The connections whose login is not over, the one that has waited longest first. Contracts see how many there are, and how many threads
-/// serve them.
+/// The connections whose login is not over, and those of discovery sessions, the one that came first in front. Contracts see how many
+/// there are, and how many threads serve them.
 #[derive(Drop)]
 pub struct Logins<C> {
     waiting: Vec<Waiting<C>>,
@@ -72,6 +72,11 @@ impl<C> Logins<C> {
         Some(number)
     }
 
+    /// Whether the connection with this number was closed, since another one came.
+    fn has_shut(&self, number: u64) -> bool {
+        !self.waiting.iter().any(|one| one.number == number)
+    }
+
     /// The login of the connection with this number is over, or its thread ends.
     pub fn leave(&mut self, number: u64)
     where
@@ -101,6 +106,14 @@ impl<'a, R: Wait, C: Drop> LoginPlace<'a, R, C> {
             rt,
             logins,
             number: Cell::new(Some(number)),
+        }
+    }
+
+    // Whether it was lost to a connection that came later.
+    pub(crate) fn is_lost(&self) -> bool {
+        match self.number.get() {
+            Some(number) => self.logins.lock(self.rt).has_shut(number),
+            None => false,
         }
     }
 

@@ -6,7 +6,7 @@ use event_log::{Event, Hand, Initiator, Log, Path, SessionType, Visit};
 use scsi_types::Asked;
 use session::TargetAnswer;
 use std::alloc::Global;
-use std::cell::RefCell;
+use std::cell::{Cell, RefCell};
 use std::sync::Wait;
 use std::time::{Clock, Duration};
 
@@ -21,6 +21,8 @@ pub struct Observer<'a, R: Wait + Clock> {
     pub path: Path,
     // None: its commands are not counted.
     hand: RefCell<Option<Hand>>,
+    // A discovery session has begun.
+    is_discovery: Cell<bool>,
 }
 
 impl<'a, R: Wait + Clock> Observer<'a, R> {
@@ -31,7 +33,13 @@ impl<'a, R: Wait + Clock> Observer<'a, R> {
             log,
             path,
             hand: RefCell::new(None),
+            is_discovery: Cell::new(false),
         }
+    }
+
+    /// Whether a discovery session has begun.
+    pub(crate) fn is_discovery(&self) -> bool {
+        self.is_discovery.get()
     }
 
     /// Tells the log.
@@ -53,7 +61,7 @@ impl<'a, R: Wait + Clock> Observer<'a, R> {
         meters.enter(self.rt, alloc, visit).ok()
     }
 
-    /// The session was to begin: where it has begun, its commands are counted.
+    /// The session was to begin: where it has begun, its kind is known, and its commands are counted.
     pub(crate) fn enter(
         &self,
         alloc: Global,
@@ -61,9 +69,12 @@ impl<'a, R: Wait + Clock> Observer<'a, R> {
         tried: Result<u16, BeginFault>,
         kind: SessionType,
     ) {
-        if let Ok(tsih) = tried
-            && let Ok(mut hand) = self.hand.try_borrow_mut()
-        {
+        let Ok(tsih) = tried else {
+            return;
+        };
+        self.is_discovery
+            .set(matches!(kind, SessionType::Discovery));
+        if let Ok(mut hand) = self.hand.try_borrow_mut() {
             *hand = self.hand_of(alloc, who, tsih, kind);
         }
     }

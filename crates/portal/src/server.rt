@@ -113,8 +113,9 @@ fn v4(address: io::Result<SocketAddr>) -> SocketAddrV4 {
     }
 }
 
-// Why a session or a connection ended, as the log tells it, or the status with which its login was refused.
-fn why(end: End, visitor: &Visitor) -> Result<Why, u16> {
+// Why a session or a connection ended, as the log tells it, or the status with which its login was refused; also where its place was lost
+// to a connection that came later.
+fn why(end: End, visitor: &Visitor, is_lost: bool) -> Result<Why, u16> {
     match end {
         End::LoginRefused(status) => Err(status),
         End::LoggedOut => Ok(Why::Logout),
@@ -128,6 +129,7 @@ fn why(end: End, visitor: &Visitor) -> Result<Why, u16> {
         End::EndOfInput | End::InputFailed | End::OutputFailed if visitor.is_replaced => {
             Ok(Why::Replaced)
         }
+        End::EndOfInput | End::InputFailed | End::OutputFailed if is_lost => Ok(Why::PushedOut),
         End::EndOfInput => Ok(Why::Closed),
         End::InputFailed => Ok(Why::InputFailed),
         End::OutputFailed => Ok(Why::OutputFailed),
@@ -142,8 +144,9 @@ fn tell_end<R: Clock>(
     end: End,
     visitor: &Visitor,
     named: Initiator<'_>,
+    is_lost: bool,
 ) {
-    match why(end, visitor) {
+    match why(end, visitor, is_lost) {
         Err(status) => log.tell(rt, &Event::LoginRefused(named, path, status, visitor.lacks)),
         Ok(why) if visitor.tsih == 0 => log.tell(rt, &Event::ConnectionEnded(path, why)),
         Ok(why) => {
@@ -171,7 +174,14 @@ fn serve_as<R: Wait + Clock, U: LogicalUnits<P, H> + Drop, G: Gate + Drop, P: Pa
     };
     let stream: &TcpStream = socket;
     let observer = Observer::new(rt, &server.log, path);
-    let timed = LimitedSource::new(Watched::timed(stream), rt, socket, place, LOGIN_SILENCE);
+    let timed = LimitedSource::new(
+        Watched::timed(stream),
+        rt,
+        socket,
+        place,
+        &observer,
+        LOGIN_SILENCE,
+    );
     let mut source = KeptSource::new(alloc, timed, &observer);
     let mut sink = ObservedSink::new(Watched::new(stream), &observer);
     match serve_session::<
@@ -198,7 +208,8 @@ fn serve_as<R: Wait + Clock, U: LogicalUnits<P, H> + Drop, G: Gate + Drop, P: Pa
         Ok((end, visitor, _seen)) => {
             let (isid, name) = source.initiator();
             let named = Initiator { name, isid };
-            tell_end(rt, &server.log, path, end, &visitor, named);
+            let is_lost = place.is_lost();
+            tell_end(rt, &server.log, path, end, &visitor, named, is_lost);
             Ok(())
         }
         Err(NoMemory) => Err(NoMemory),

@@ -206,44 +206,8 @@ fn refused_at<S: Drop>(unit: u8, full: Option<S>, seen: &mut Vec<S>) -> BeginFau
     }
 }
 
-// Attaches a normal session to all units in order. Where one refuses, it is over at those before. What was seen then is kept.
-fn attach_all<R: Wait, U: LogicalUnits<P, H>, P: Pass, H: Drop>(
-    rt: &R,
-    alloc: Global,
-    units: &U,
-    port: &PortName,
-    group: Group,
-    attached: &mut Vec<UnitSession<P>>,
-    seen: &mut Vec<H>,
-) -> Result<(), BeginFault>
-    requires none { attached.old.items ≡ [] }
-    requires room { length seen.old.items + U.unit_count units.now ≤ vec_capacity seen.old }
-    ensures joined { IfOk result (λ _. IsJoined U.claims U.opening SessionType.Normal (through port.now group)
-        (U.unit_count units.now) attached.new.items) }
-    ensures placed { IfOk result (λ _. All (λ a. a.place < U.unit_count units.now) attached.new.items) }
-    ensures unseen { IfOk result (λ _. seen.new ≡ seen.old) }
-    ensures turned_back { IfErr result (λ fault. IsTurnedBack U.claims U.opening (through port.now group) SessionType.Normal
-        (U.unit_count units.now) fault (map U.seen seen.old.items) (map U.seen seen.new.items)) }
-    ensures of_units { IfErr result IsOfUnits }
-    ensures left { IfErr result (λ _. attached.new.items ≡ []) }
-{
-    let count = units.count();
-    if attached.reserve_exact(usize::from(count)).is_err() {
-        return Err(BeginFault::NoMemory);
-    }
-    for unit in 0..count {
-        match attach_to(rt, alloc, units, unit, port, group) {
-            Ok(one) => attached.push_reserved(one),
-            Err(full) => {
-                retire_all(rt, units, attached, seen);
-                return Err(refused_at(unit, full, seen));
-            }
-        }
-    }
-    Ok(())
-}
-
-// The same in a turn, which is held from before the first unit to behind the last.
+// Attaches a normal session to all units in order, in a turn, which is held from before the first unit to behind the last. Where one
+// refuses, it is over at those before. What was seen then is kept.
 #[tactic(auto, using(crate::specs::Turns::an_attach_says))]
 fn attach_in_turn<R: Wait, U: LogicalUnits<P, H>, P: Pass, H: Drop>(
     turn: &mut Turn,
@@ -268,7 +232,20 @@ fn attach_in_turn<R: Wait, U: LogicalUnits<P, H>, P: Pass, H: Drop>(
     ensures left { IfErr result (λ _. attached.new.items ≡ []) }
 {
     turn.begin();
-    attach_all(rt, alloc, units, port, group, attached, seen)
+    let count = units.count();
+    if attached.reserve_exact(usize::from(count)).is_err() {
+        return Err(BeginFault::NoMemory);
+    }
+    for unit in 0..count {
+        match attach_to(rt, alloc, units, unit, port, group) {
+            Ok(one) => attached.push_reserved(one),
+            Err(full) => {
+                retire_all(rt, units, attached, seen);
+                return Err(refused_at(unit, full, seen));
+            }
+        }
+    }
+    Ok(())
 }
 
 // A session begins to live: its number and its TSIH.
@@ -303,60 +280,9 @@ fn enter_in_turn<R: Wait, S: Sessions<C>, C: Connection, P: Pass>(
     enter(rt, sessions, new, connection)
 }
 
-// Attaches a normal session to all units; then it begins to live: its number and its TSIH. Where a unit or the
-// table refuses it, it is over at all units. What was seen then is kept.
-fn attach_then_enter<
-    R: Wait,
-    U: LogicalUnits<P, H>,
-    S: Sessions<C>,
-    C: Connection + Drop,
-    P: Pass,
-    H: Drop,
->(
-    turn: &mut Turn,
-    rt: &R,
-    alloc: Global,
-    units: &U,
-    sessions: &S,
-    port: PortName,
-    group: Group,
-    connection: C,
-    at: &mut Vec<UnitSession<P>>,
-    seen: &mut Vec<H>,
-) -> Result<(u64, u16), BeginFault>
-    requires none { at.old.items ≡ [] }
-    requires room { length seen.old.items + U.unit_count units.now ≤ vec_capacity seen.old }
-    ensures joined { IfOk result (λ _. IsJoined U.claims U.opening SessionType.Normal (through port group)
-        (U.unit_count units.now) at.new.items) }
-    ensures placed { IfOk result (λ _. All (λ a. a.place < U.unit_count units.now) at.new.items) }
-    ensures entered { IfOk result (λ r. S.says.entered (through port group) SessionType.Normal r.0 r.1) }
-    ensures tsih { IfOk result (λ r. 0 < r.1) }
-    ensures unseen { IfOk result (λ _. seen.new ≡ seen.old) }
-    ensures turned_back { IfErr result (λ fault. IsTurnedBack U.claims U.opening (through port group) SessionType.Normal
-        (U.unit_count units.now) fault (map U.seen seen.old.items) (map U.seen seen.new.items)) }
-    ensures grounds { IfErr result (IsGrounded S.says false) }
-    ensures left { IfErr result (λ _. at.new.items ≡ []) }
-{
-    match attach_in_turn(turn, rt, alloc, units, &port, group, at, seen) {
-        Ok(()) => {}
-        Err(fault) => return Err(fault),
-    }
-    let new = NewSession {
-        port,
-        group,
-        kind: SessionType::Normal,
-    };
-    match enter_in_turn(turn, rt, sessions, new, connection, at) {
-        Ok(entered) => Ok(entered),
-        Err(fault) => {
-            retire_all(rt, units, at, seen);
-            Err(BeginFault::from(fault))
-        }
-    }
-}
-
-// The same of one that has its turn. It may have waited for long, and would end a session of its port that lives: so it is refused where
-// its connection is over by then.
+// Attaches a normal session that has its turn to all units; then it begins to live: its number and its TSIH. It may have waited for long,
+// and would end a session of its port that lives: so it is refused where its connection is over by then. Where a unit or the table
+// refuses it, it is over at all units. What was seen then is kept.
 #[tactic(auto, using(crate::proofs::Refusing::too_late))]
 fn attach_and_enter<
     R: Wait,
@@ -393,9 +319,22 @@ fn attach_and_enter<
     if !connection.is_held() {
         return Err(BeginFault::Left);
     }
-    attach_then_enter(
-        turn, rt, alloc, units, sessions, port, group, connection, at, seen,
-    )
+    match attach_in_turn(turn, rt, alloc, units, &port, group, at, seen) {
+        Ok(()) => {}
+        Err(fault) => return Err(fault),
+    }
+    let new = NewSession {
+        port,
+        group,
+        kind: SessionType::Normal,
+    };
+    match enter_in_turn(turn, rt, sessions, new, connection, at) {
+        Ok(entered) => Ok(entered),
+        Err(fault) => {
+            retire_all(rt, units, at, seen);
+            Err(BeginFault::from(fault))
+        }
+    }
 }
 
 // What a session is answered to a command of a unit that is not there.

@@ -4,6 +4,7 @@ use crate::answer::{Seen, Wanted, asked_for};
 use crate::as_json::{kept, status};
 use crate::exposition::metrics;
 use crate::html::PAGE;
+use crate::script::SCRIPT;
 use crate::troubles::health;
 use crate::view::ArrayView;
 use bytes::{BufMut, Bytes};
@@ -135,11 +136,12 @@ fn tell_seen(
 fn tell_page(response: &mut Response) -> Result<(), AllocError> {
     add!(response, header::CONTENT_TYPE, HTML)?;
     add!(response, header::CONTENT_SECURITY_POLICY, POLICY)?;
-    put_body(response, page())
+    put_static(response, PAGE)?;
+    put_static(response, SCRIPT)
 }
 
-fn page() -> Bytes {
-    Bytes::from_static(PAGE.as_bytes())
+fn put_static(response: &mut Response, text: &'static str) -> Result<(), AllocError> {
+    put_body(response, Bytes::from_static(text.as_bytes()))
 }
 
 // That nothing can be done here.

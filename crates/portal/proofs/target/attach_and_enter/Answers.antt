@@ -4,7 +4,7 @@ use Rattle.registrants.specs.Nexus.{through}
 use Rattle.portal.specs.Target.{Sight, IsGrounded, IsTurnedBack, Leaves}
 use Rattle.portal.specs.declared.target.BeginFault.{BeginFault}
 use Rattle.portal.proofs.Refusing.{behind_all, grounds_of, grounds_of_units}
-use Rattle.portal.proofs.target.attach_then_enter.Goals as goal
+use Rattle.portal.proofs.target.attach_and_enter.Goals as goal
 
 pub returns-in-Err-clause-grounds : goal.returns-in-Err-clause-grounds
 returns-in-Err-clause-grounds g c = grounds_of_units g.S.Sessions.says false c.in-Err.fault c.in-Err.ensures.of_units

@@ -6,7 +6,7 @@ use Rattle.portal.specs.Submitted.{At}
 use Rattle.portal.proofs.Attaching.{Onward, onward}
 use Rattle.portal.proofs.Refusing.{at_a_unit, at_once}
 use Rattle.portal.specs.Target.{Leaves}
-use Rattle.portal.proofs.target.attach_all.Goals as goal
+use Rattle.portal.proofs.target.attach_in_turn.Goals as goal
 
 pub loop-unit-preserved : goal.loop-unit-preserved
 loop-unit-preserved g c =

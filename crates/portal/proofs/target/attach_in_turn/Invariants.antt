@@ -1,7 +1,7 @@
 use Rattle.std.proofs.Common.{◌≡◌, ◌<◌, ◌≤◌, All, length, vec_capacity}
 use Rattle.registrants.specs.Nexus.{through}
 use Rattle.portal.specs.Target.{AreAttached}
-use Rattle.portal.proofs.target.attach_all.Given as goal
+use Rattle.portal.proofs.target.attach_in_turn.Given as goal
 
 abbrev pub invariant-loop-unit : goal.invariant-loop-unit
 invariant-loop-unit g l =

@@ -1,0 +1,298 @@
+//! What the lines of the control socket are answered, and what they do.
+
+use crate::administered::Administered;
+use crate::collector::ArrayCollector;
+use crate::lines::{say_moved, text_of};
+use event_log::Event;
+use scsi_types::Group;
+use std::alloc::Global;
+use std::io::{self, Write};
+use std::sync::Wait;
+use std::thread;
+use std::time::{Clock, Duration};
+use window::{ArrayView, Collector, Registration, Seen, SessionView, health};
+
+/// So many milliseconds lie between two looks whether a session is over that was ended, and so often is looked.
+const LOOK: u64 = 5;
+
+const LOOKS: u32 = 1000;
+
+const HELP: &str = "status         a line for each unit
+health         a line for each thing that is wrong or degraded, or ok
+sessions       a line for each session that is logged in
+keys U         a line for each registration of a unit
+version        the version of the program
+help           these lines
+acknowledge    ends what failed, but for flushes, as seen
+end TSIH       ends a session
+down 1, down 2 takes a controller down, unit by unit
+up 1, up 2     gives a controller the units back that prefer it
+quit           flushes the units, and ends the array
+";
+
+/// How a line was obeyed.
+#[derive(Clone, Copy)]
+enum End {
+    Done,
+    NotDone,
+    /// There is no such line.
+    Unknown,
+}
+
+/// What a line has the array do, where it is no mere question.
+#[derive(Clone, Copy)]
+enum Deed {
+    Acknowledge,
+    Down(Group),
+    Up(Group),
+    End(u16),
+    Quit,
+}
+
+impl End {
+    // The number that stands for it in the last line of an answer.
+    fn number(self) -> u8 {
+        match self {
+            End::Done => 0,
+            End::NotDone => 1,
+            End::Unknown => 2,
+        }
+    }
+
+    // Done, where this is so.
+    fn of(is_done: bool) -> End {
+        if is_done { End::Done } else { End::NotDone }
+    }
+}
+
+// What a line has the array do. None: it asks something, or is none of those that there are.
+fn deed_in(text: &str) -> Option<Deed> {
+    match text {
+        "acknowledge" => Some(Deed::Acknowledge),
+        "down 1" => Some(Deed::Down(Group::One)),
+        "down 2" => Some(Deed::Down(Group::Two)),
+        "up 1" => Some(Deed::Up(Group::One)),
+        "up 2" => Some(Deed::Up(Group::Two)),
+        "quit" => Some(Deed::Quit),
+        _ => match text.strip_prefix("end ")?.parse::<u16>() {
+            Ok(tsih) => Some(Deed::End(tsih)),
+            Err(_) => None,
+        },
+    }
+}
+
+// Writes a line for a session. The name of its initiator, which a host chose, stands last and between quotes.
+fn say_session<W: Write>(writer: &mut W, session: &SessionView) -> io::Result<()> {
+    let (tsih, controller, kind) = (session.tsih, session.controller, session.kind);
+    write!(
+        writer,
+        "session {tsih} controller {controller} type {kind} "
+    )?;
+    let (isid, peer, portal) = (
+        session.isid.as_str(),
+        session.peer.as_str(),
+        session.portal.as_str(),
+    );
+    write!(writer, "isid {isid} peer {peer} portal {portal} ")?;
+    let (since, commands) = (session.since, session.commands);
+    let last = session.last_command.unwrap_or("none");
+    write!(writer, "since {since} commands {commands} last {last} ")?;
+    let initiator = session.spelled.as_str();
+    writeln!(writer, "initiator \"{initiator}\"")
+}
+
+// Writes a line for a registration. The name of its initiator, which a host chose, stands last and between quotes.
+fn say_key<W: Write>(writer: &mut W, registration: &Registration) -> io::Result<()> {
+    let (key, controller) = (registration.key.as_str(), registration.controller);
+    let (isid, kind) = (registration.isid.as_str(), registration.reservation_type);
+    write!(
+        writer,
+        "key {key} controller {controller} isid {isid} holds {kind} "
+    )?;
+    let initiator = registration.spelled.as_str();
+    writeln!(writer, "initiator \"{initiator}\"")
+}
+
+// Writes that there is no such line.
+fn say_unknown<W: Write>(writer: &mut W) -> io::Result<End> {
+    writer.write_all(b"?\n")?;
+    Ok(End::Unknown)
+}
+
+/// What answers at the control socket of an array that is served.
+pub(crate) struct Answers<R: Wait + Clock + Drop, A: Administered + Drop> {
+    pub(crate) collector: ArrayCollector<R, A>,
+}
+
+impl<R: Wait + Clock + Drop, A: Administered + Drop> Drop for Answers<R, A> {
+    fn drop(self) {
+        let Self { collector: _ } = self;
+    }
+}
+
+impl<R: Wait + Clock + Drop, A: Administered + Drop> Answers<R, A> {
+    // What is seen of the array: its sessions, and what is wrong.
+    fn view(&self, alloc: Global) -> io::Result<ArrayView> {
+        Ok(self.collector.collect(alloc, Seen::Health)?)
+    }
+
+    fn say_sessions<W: Write>(&self, alloc: Global, writer: &mut W) -> io::Result<()> {
+        for session in &self.view(alloc)?.sessions {
+            say_session(writer, session)?;
+        }
+        Ok(())
+    }
+
+    fn say_version<W: Write>(&self, writer: &mut W) -> io::Result<()> {
+        let version = self.collector.version();
+        writeln!(writer, "arrayd {version}")
+    }
+
+    // Writes what is wrong and what is degraded: not done, where anything is wrong.
+    fn say_health<W: Write>(&self, alloc: Global, writer: &mut W) -> io::Result<End> {
+        let view = self.view(alloc)?;
+        let text = health(alloc, &view)?;
+        writer.write_all(text.as_bytes())?;
+        Ok(End::of(view.problems.is_empty()))
+    }
+
+    // Writes the registrations of a unit.
+    fn say_keys<W: Write>(&self, alloc: Global, writer: &mut W, unit: u8) -> io::Result<End> {
+        let (array, place) = (&self.collector.array, usize::from(unit));
+        if place >= array.count() {
+            writer.write_all(b"no unit\n")?;
+            return Ok(End::NotDone);
+        }
+        let Some(registrations) = array.registrations(alloc, place) else {
+            writer.write_all(b"busy\n")?;
+            return Ok(End::NotDone);
+        };
+        for registration in &registrations {
+            say_key(writer, registration)?;
+        }
+        Ok(End::Done)
+    }
+
+    // Answers a question with a number, or a line that is none of those that there are.
+    fn tell_numbered<W: Write>(
+        &self,
+        alloc: Global,
+        writer: &mut W,
+        text: &str,
+    ) -> io::Result<End> {
+        if let Some(number) = text.strip_prefix("keys ")
+            && let Ok(unit) = number.parse::<u8>()
+        {
+            return self.say_keys(alloc, writer, unit);
+        }
+        say_unknown(writer)
+    }
+
+    // Answers a question.
+    fn tell<W: Write>(&self, alloc: Global, writer: &mut W, text: &str) -> io::Result<End> {
+        match text {
+            "status" => self.collector.array.say_status(&self.collector.rt, writer)?,
+            "health" => return self.say_health(alloc, writer),
+            "sessions" => self.say_sessions(alloc, writer)?,
+            "version" => self.say_version(writer)?,
+            "help" => writer.write_all(HELP.as_bytes())?,
+            _ => return self.tell_numbered(alloc, writer, text),
+        }
+        Ok(End::Done)
+    }
+
+    // What has failed was seen by an administrator.
+    fn acknowledge<W: Write>(&self, writer: &mut W) -> io::Result<End> {
+        if let Some(meters) = self.collector.array.log().meters() {
+            meters.acknowledge();
+        }
+        writer.write_all(b"acknowledged\n")?;
+        Ok(End::Done)
+    }
+
+    // Whether a session is over, for which it waits for a while: from then on no command of it reaches a unit.
+    fn is_over(&self, tsih: u16) -> bool {
+        let rt = &self.collector.rt;
+        for _ in 0..LOOKS {
+            if !self.collector.array.lives(rt, tsih) {
+                return true;
+            }
+            thread::sleep(rt, Duration::from_millis(LOOK));
+        }
+        false
+    }
+
+    // Ends a session, and writes what became of it.
+    fn end<W: Write>(&self, writer: &mut W, tsih: u16) -> io::Result<End> {
+        if !self.collector.array.shut(&self.collector.rt, tsih) {
+            writer.write_all(b"no session\n")?;
+            return Ok(End::NotDone);
+        }
+        let is_over = self.is_over(tsih);
+        let word = if is_over { "ended" } else { "ending" };
+        writeln!(writer, "{word}")?;
+        Ok(End::of(is_over))
+    }
+
+    // Takes no command in any more, and flushes the units. Of the first that was not a line tells.
+    fn quit<W: Write>(&self, writer: &mut W) -> io::Result<End> {
+        match self.collector.array.quit(&self.collector.rt) {
+            Ok(()) => Ok(End::Done),
+            Err(unit) => {
+                writeln!(writer, "not flushed {unit}")?;
+                Ok(End::NotDone)
+            }
+        }
+    }
+
+    // Does what a line has the array do.
+    fn act<W: Write>(&self, writer: &mut W, deed: Deed) -> io::Result<End> {
+        let (array, rt) = (&self.collector.array, &self.collector.rt);
+        let (word, moved) = match deed {
+            Deed::Acknowledge => return self.acknowledge(writer),
+            Deed::End(tsih) => return self.end(writer, tsih),
+            Deed::Quit => return self.quit(writer),
+            Deed::Down(controller) => ("down", array.down(rt, controller)),
+            Deed::Up(controller) => ("up", array.up(rt, controller)),
+        };
+        say_moved(writer, word, moved)?;
+        Ok(End::of(moved.is_ok()))
+    }
+
+    // Obeys a line. What it has the array do is told to the log first.
+    fn obey<W: Write>(&self, alloc: Global, writer: &mut W, text: &str) -> io::Result<End> {
+        let Some(deed) = deed_in(text) else {
+            return self.tell(alloc, writer, text);
+        };
+        let ordered = Event::Ordered(text.as_bytes());
+        self.collector
+            .array
+            .log()
+            .tell(&self.collector.rt, &ordered);
+        self.act(writer, deed)
+    }
+
+    /// Answers a line. The last line of the answer is a dot and a number: how the line was obeyed.
+    pub(crate) fn answer<W: Write>(
+        &self,
+        alloc: Global,
+        writer: &mut W,
+        line: &[u8],
+    ) -> io::Result<()> {
+        let end = match text_of(line) {
+            Some(text) => self.obey(alloc, writer, text)?,
+            None => say_unknown(writer)?,
+        };
+        let number = end.number();
+        writeln!(writer, ". {number}")
+    }
+
+    /// The answer to a line has left: where it was to end the array, the program ends now.
+    pub(crate) fn leave(&self, line: &[u8]) {
+        if let Some("quit") = text_of(line)
+            && let Some(meters) = self.collector.array.log().meters()
+        {
+            meters.quit();
+        }
+    }
+}
