@@ -79,6 +79,12 @@ def orders(log):
     return [line.split(" line=", 1)[1] for line in lines(log, "order by=control")]
 
 
+def ends(log):
+    """How often the log tells that the array takes no command any more."""
+    with open(log, encoding="utf-8") as file:
+        return sum(line.endswith(" event=stopping\n") for line in file)
+
+
 def sessions(folder):
     """The sessions by ISID, each of whose lines has to be spelled as lines are."""
     found = {}
@@ -304,7 +310,7 @@ def array_that_is_told_to_quit(folder):
         is_so("its status", array.process.wait(10), 0)
         is_so("standard output", array.last_words()[1], "")
         is_so("the socket is gone", os.path.exists(f"{folder}/control"), False)
-        is_so("the log", (orders(log), len(lines(log, "stopping"))), (['"quit"'], 1))
+        is_so("the log", (orders(log), ends(log)), (['"quit"'], 1))
     with array_in(folder) as array:
         # the peer that told it does not wait for the answer
         with connected(folder) as peer:
@@ -316,7 +322,7 @@ def array_that_is_told_to_quit(folder):
         failing.let("fdatasync", errno.EIO, times=9)
         is_so("not flushed", told(folder, "quit"), ["not flushed 0", NOT_DONE])
         is_so("its end", (array.process.wait(10), "unit 0 was not flushed" in array.process.stderr.read()), (3, True))
-        is_so("the log", (len(lines(log, "stopping")), len(lines(log, "not_flushed"))), (2, 1))
+        is_so("the log", (ends(log), sum("event=not_flushed unit=0" in line for line in open(log, encoding="utf-8"))), (2, 1))
 
 
 @case
