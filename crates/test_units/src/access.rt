@@ -1,8 +1,7 @@
 //! Access states: what each serves, who changes them, and who hears of it (SPC-4, 5.15.2, 6.37 and 6.45).
-use crate::run::run;
 
 // Each session was told of its power on.
-fn two_sessions() -> &'static str {
+pub fn two_sessions() -> &'static str {
     r#"
 a session through the first group; attach 1 1;; ATTACHED 0
 its power on; send 0 00;; CHECK 06 29 00
@@ -14,7 +13,7 @@ the states; send 0 A3 0A 00000000 000000FF;; GOOD 00 00 00 18 80 0F 00 01 00 00 
 
 // SET TARGET PORT GROUPS is A4h; its list has four bytes, and four for each group, of which the first is the state and the last the
 // group. REPORT TARGET PORT GROUPS is A3h.
-fn rows() -> &'static str {
+pub fn rows() -> &'static str {
     r#"
 # One open is asked for.
 group 2 takes over
@@ -191,9 +190,4 @@ calls 0
 a flush; flush;; FAILED
 another session; attach 3 1;; ATTACHED 5
 "#
-}
-
-#[test]
-fn access_states_change(rt: HostRuntime) {
-    run(&rt, rt.alloc(), two_sessions(), rows());
 }

@@ -1,9 +1,8 @@
 //! Devices of 16 blocks that fail. Each call of a device is the read or the write of a run, or a flush.
-use crate::run::{ONE_SESSION, run_form};
 
 /// Each command is the first of a session, which is ready behind it. Of each: behind how many calls the device fails, the command, its
 /// data, its end, how many blocks the run lands at which the device fails, and what is written then.
-fn commands() -> (&'static str, &'static str) {
+pub fn commands() -> (&'static str, &'static str) {
     let form = "
 [0]
 calls [1]
@@ -44,9 +43,4 @@ one call, and a difference; 1; 89 08 000000000000000A 000000 02; 1023*00 1025*5A
   CHECK F0 00 0E 00 00 03 FF 0A 00 00 00 00 1D 00 00 00 00 00
 ";
     (form, rows)
-}
-
-#[test]
-fn failing_devices(rt: HostRuntime) {
-    run_form(&rt, rt.alloc(), ONE_SESSION, commands());
 }

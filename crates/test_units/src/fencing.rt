@@ -1,8 +1,7 @@
 //! Persistent reservations: who registers, who is fenced, who hears of it (SPC-4, 5.13, 6.15 and 6.16).
-use crate::run::run;
 
 // Four sessions that were told of their power on.
-fn four() -> &'static str {
+pub fn four() -> &'static str {
     r#"
 the first session; attach 1 1;; ATTACHED 0
 its power on; send 0 00;; CHECK 06 29 00
@@ -17,7 +16,7 @@ its power on; send 3 00;; CHECK 06 29 00
 
 // PERSISTENT RESERVE OUT is 5Fh, with its service action, and the type of the reservation; its list begins with a reservation key and
 // a service action reservation key of eight bytes each. PERSISTENT RESERVE IN is 5Eh.
-fn rows() -> &'static str {
+pub fn rows() -> &'static str {
     r#"
 # Keys 11h, 22h, 11h and 33h; the first reserves with type 5, and the second preempts 11h with type 6.
 a holder is preempted
@@ -122,7 +121,7 @@ written 1 5A
 }
 
 // 62 registrants, each session registered by three entries. The first has key 11h, the others have 22h.
-fn sixty_two() -> &'static str {
+pub fn sixty_two() -> &'static str {
     r#"
 a session; attach 0 1;; ATTACHED 0
 its power on; send 0 00;; CHECK 06 29 00
@@ -135,7 +134,7 @@ it registers; send N 5F 00 00 0000 00000018; 15*00 22 8*00; GOOD
 }
 
 // What comes behind them.
-fn many() -> &'static str {
+pub fn many() -> &'static str {
     r#"
 # Two more have 22h, and there is no room for a 65th registrant. The first preempts the others.
 64 registrants
@@ -170,10 +169,4 @@ it registers by every port; send 63 5F 00 00 0000 00000018; 15*00 33 4*00 04 3*0
 the first by every port; send 0 5F 06 00 0000 00000018; 15*00 11 4*00 04 3*00; GOOD
 64 keys; send 0 5E 00 0000000000 0008;; GOOD 00 00 00 42 00 00 02 00
 "#
-}
-
-#[test]
-fn who_is_fenced(rt: HostRuntime) {
-    run(&rt, rt.alloc(), four(), rows());
-    run(&rt, rt.alloc(), sixty_two(), many());
 }

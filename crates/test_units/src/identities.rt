@@ -1,7 +1,7 @@
 //! What a unit says of itself (SPC-4, 6.6, 6.13 and 6.33; SBC-3, READ CAPACITY commands).
-use crate::run::{ONE_SESSION, run};
 
-const ROWS: &str = r#"
+pub fn rows() -> &'static str {
+    r#"
 identity
 the first 8 bytes of the standard INQUIRY data; send 0 12 00 00 0008;; GOOD 00 00 06 12 1F 30 10 02
 the pages that there are; send 0 12 01 00 00FF;; GOOD 00 00 00 04 00 80 83 B0
@@ -26,9 +26,5 @@ MODE SENSE (6) of what may be changed; send 0 1A 00 7F 00 FF;; GOOD 23 00 10 00 
 MODE SENSE (10) of what may be changed; send 0 5A 00 7F 00 000000 00FF;; GOOD 00 26 00 10 00 00 00 00 08 12 18*00 0A 0A 10*00
 REPORT LUNS of all; send 0 A0 00 02 000000 000000FF;; GOOD 00 00 00 10 13*00 01 6*00
 REPORT LUNS of well known logical units; send 0 A0 00 01 000000 000000FF;; GOOD 8*00
-"#;
-
-#[test]
-fn what_a_unit_is(rt: HostRuntime) {
-    run(&rt, rt.alloc(), ONE_SESSION, ROWS);
+"#
 }

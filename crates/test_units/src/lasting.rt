@@ -1,8 +1,7 @@
 //! What of the registrations outlasts a loss of power (SPC-4, 5.13.5).
-use crate::run::{ONE_SESSION, run, run_form};
 
 // In a list of PERSISTENT RESERVE OUT, the byte 01h behind both keys and four bytes is APTPL.
-fn rows() -> &'static str {
+pub fn rows() -> &'static str {
     r#"
 # A restart begins with PRGENERATION 0, and with the sessions that attach then.
 what lasts
@@ -106,7 +105,7 @@ who is registered then; send 0 5E 00 0000000000 00FF;; GOOD 8*00 | GOOD 8*00 | G
 }
 
 // 64 registrants with the key 5A5A5A5A5A5A5A5Ah, to last. All of them are found behind a restart, and hold a reservation.
-fn many() -> (&'static str, &'static str) {
+pub fn many() -> (&'static str, &'static str) {
     let form = "[0]
 opens 0
 saves always
@@ -124,10 +123,4 @@ their reservation; send 0 5E 01 0000000000 00FF;; GOOD 7*00 10 13*00 08 00 00";
     let lines = "64 ports, each through one group; 64; 01
 32 ports, each through both groups; 32; 05";
     (form, lines)
-}
-
-#[test]
-fn registrations_last(rt: HostRuntime) {
-    run(&rt, rt.alloc(), ONE_SESSION, rows());
-    run_form(&rt, rt.alloc(), "", many());
 }

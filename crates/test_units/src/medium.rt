@@ -1,7 +1,7 @@
 //! The commands on the medium of a unit of 2048 blocks (SBC-3, section 5).
-use crate::run::{ONE_SESSION, run};
 
-const ROWS: &str = r#"
+pub fn rows() -> &'static str {
+    r#"
 medium
 blocks 2048
 READ CAPACITY (10); send 0 25;; GOOD 000007FF 00000200
@@ -57,9 +57,5 @@ written 6 22
 written 7 77
 written 9 99
 written 2047 FF
-"#;
-
-#[test]
-fn medium_commands(rt: HostRuntime) {
-    run(&rt, rt.alloc(), ONE_SESSION, ROWS);
+"#
 }

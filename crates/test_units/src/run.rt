@@ -3,28 +3,32 @@ use crate::bench::{Bench, Setup, filled_by};
 use crate::ended::Ended;
 use crate::ends::must;
 use crate::rows::{Row, are_within, is_row, part, setup_of, spelled, written_at};
+use crate::{
+    access, failing, fencing, identities, lasting, medium, sessions, states, unit_attentions,
+};
 use block_file::{Blocks, MemBlocks};
 use crash_blocks::Pick;
 use scsi_types::Sense;
 use std::alloc::Global;
 use std::process::Abort;
+use std::test::*;
 use test_connections::{filled, lines_of};
 
 /// A session through the first group that was told of the power on.
-pub const ONE_SESSION: &str = "
+const ONE_SESSION: &str = "
 attach; attach 1 1;; ATTACHED 0
 the power on; send 0 00;; CHECK 06 29 00
 ";
 
-/// Plays each script of a table, behind these rows.
-pub fn run(rt: &impl Abort, alloc: Global, before: &str, table: &str) {
+// Plays each script of a table, behind these rows.
+fn run(rt: &impl Abort, alloc: Global, before: &str, table: &str) {
     for script in table.split("\n\n") {
         run_script(rt, alloc, before, script);
     }
 }
 
-/// Plays a script for each line that fills its form, behind these rows.
-pub fn run_form(rt: &impl Abort, alloc: Global, before: &str, (form, lines): (&str, &str)) {
+// Plays a script for each line that fills its form, behind these rows.
+fn run_form(rt: &impl Abort, alloc: Global, before: &str, (form, lines): (&str, &str)) {
     let lines = lines_of(alloc, lines).expect(rt, "memory");
     must(rt, !lines.is_empty(), form, &"a table has a row");
     for parts in &lines {
@@ -166,4 +170,23 @@ fn is_sense(sense: &[u8], bytes: &[u8]) -> bool {
         [key, asc, ascq] => sense == Sense::new(*key, *asc, *ascq).to_bytes().as_slice(),
         _ => sense == bytes,
     }
+}
+
+#[test]
+fn scripts_of_a_unit(rt: HostRuntime) {
+    for (before, table) in &[
+        ("", states::rows()),
+        ("", sessions::rows()),
+        ("", unit_attentions::rows()),
+        (ONE_SESSION, identities::rows()),
+        (ONE_SESSION, medium::rows()),
+        (ONE_SESSION, lasting::rows()),
+        (access::two_sessions(), access::rows()),
+        (fencing::four(), fencing::rows()),
+        (fencing::sixty_two(), fencing::many()),
+    ] {
+        run(&rt, rt.alloc(), *before, *table);
+    }
+    run_form(&rt, rt.alloc(), ONE_SESSION, failing::commands());
+    run_form(&rt, rt.alloc(), "", lasting::many());
 }

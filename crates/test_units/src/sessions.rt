@@ -1,7 +1,6 @@
 //! Sessions, their serials, and the group that owns a unit.
-use crate::run::run;
 
-fn rows() -> &'static str {
+pub fn rows() -> &'static str {
     r#"
 # A session's id is the number of the unit's entries before it.
 serials
@@ -81,9 +80,4 @@ one that ends; detach 6;; DONE
 a new nexus in its place; attach 64 1;; ATTACHED 68
 its command; send 65 00;; CHECK 06 29 00
 "#
-}
-
-#[test]
-fn sessions_and_their_commands(rt: HostRuntime) {
-    run(&rt, rt.alloc(), "", rows());
 }

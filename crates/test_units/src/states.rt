@@ -1,9 +1,8 @@
 //! Which commands are served in which access state (SPC-4, 5.15.2.4).
-use crate::run::run;
 
 // Each session was told of its power on. Then come commands of the second, and how each ends where its group is active/optimized,
 // active/non-optimized, in standby and unavailable.
-fn rows() -> &'static str {
+pub fn rows() -> &'static str {
     r#"
 a state of the second group
 blocks 512
@@ -48,9 +47,4 @@ the states; send 0 A3 0A 00000000 000000FF;; GOOD 00 00 00 18 01 0F 00 01 00 00 
 it writes; send 0 2A 00 00000001 00 0001; 512*5A; GOOD
 written 1 5A
 "#
-}
-
-#[test]
-fn each_state_serves_its_commands(rt: HostRuntime) {
-    run(&rt, rt.alloc(), "", rows());
 }

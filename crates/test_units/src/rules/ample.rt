@@ -21,46 +21,49 @@ const PLACE: Place = Place {
     array: 0xFEDC_BA98,
 };
 
-// The data is these bytes.
-fn is(rt: &impl Abort, alloc: Global, data: Result<Vec<u8>, NoMemory>, bytes: &str) {
-    let data = data.expect(rt, bytes);
-    let want = bytes_of(alloc, &[], bytes).expect(rt, bytes);
-    must(rt, data == want, bytes, &data);
+// What a unit says of itself: of what, and the bytes.
+fn told() -> &'static str {
+    r#"
+serial; 00 80 00 0A "fedcba9807"
+names; 00 83 00 1C 01 03 00 08 30 00 FEDCBA98 00 07 51 94 00 04 00 00 00 01 51 95 00 04 00 00 00 01
+mode pages; 001A 00 10 0000 0000 08 12
+units; 00000040 13*00 01 7*00 02
+capacity; FFFFFFFE 00000200
+capacity of 16 bytes; 00000000 FFFFFFFE 00000200 20*00
+sense; 70 00 06 4*00 0A 4*00 2A 05 4*00
+access states; 00000018 01 0F 0001 00 00 00 01 00000001 80 0F 0002 00 00 00 01 00000002
+"#
 }
 
-#[test]
-fn what_a_unit_says_of_itself(rt: HostRuntime) {
-    let alloc = rt.alloc();
-    let page = InquiryPage::UnitSerialNumber;
-    let serial = inquiry(alloc, PLACE, Group::Two, page, 255);
-    is(&rt, alloc, serial, r#"00 80 00 0A "fedcba9807""#);
-    let page = InquiryPage::DeviceIdentification;
-    let names = inquiry(alloc, PLACE, Group::One, page, 255);
-    is(
-        &rt,
-        alloc,
-        names,
-        "00 83 00 1C 01 03 00 08 30 00 FEDCBA98 00 07 51 94 00 04 00 00 00 01 51 95 00 04 00 00 00 01",
-    );
-    let (control, pages) = (PageControl::Default, ModePage::Caching);
-    let pages = mode_sense(alloc, ModeHeader::Ten, control, pages, 10);
-    is(&rt, alloc, pages, "001A 00 10 0000 0000 08 12");
-    let luns = report_luns(alloc, PLACE, LunSelect::Units, 26);
-    is(&rt, alloc, luns, "00000040 13*00 01 7*00 02");
-    let capacity = read_capacity_10(alloc, 0xFFFF_FFFF);
-    is(&rt, alloc, capacity, "FFFFFFFE 00000200");
-    let capacity = read_capacity_16(alloc, 0xFFFF_FFFF, 255);
-    is(&rt, alloc, capacity, "00000000 FFFFFFFE 00000200 20*00");
-    let told = Some(UnitAttention::RegistrationsPreempted);
-    let sense = request_sense(alloc, told, 255);
-    is(&rt, alloc, sense, "70 00 06 4*00 0A 4*00 2A 05 4*00");
-    let states = AccessMap::opening(Group::Two).report(alloc, Group::Two, 28);
-    is(
-        &rt,
-        alloc,
-        states,
-        "00000018 01 0F 0001 00 00 00 01 00000001 80 0F 0002 00 00 00 01 00000002",
-    );
+fn said(alloc: Global, of: &str) -> Result<Vec<u8>, NoMemory> {
+    match of {
+        "serial" => inquiry(alloc, PLACE, Group::Two, InquiryPage::UnitSerialNumber, 255),
+        "names" => inquiry(
+            alloc,
+            PLACE,
+            Group::One,
+            InquiryPage::DeviceIdentification,
+            255,
+        ),
+        "mode pages" => {
+            let (control, page) = (PageControl::Default, ModePage::Caching);
+            mode_sense(alloc, ModeHeader::Ten, control, page, 10)
+        }
+        "units" => report_luns(alloc, PLACE, LunSelect::Units, 26),
+        "capacity" => read_capacity_10(alloc, 0xFFFF_FFFF),
+        "capacity of 16 bytes" => read_capacity_16(alloc, 0xFFFF_FFFF, 255),
+        "sense" => request_sense(alloc, Some(UnitAttention::RegistrationsPreempted), 255),
+        "access states" => AccessMap::opening(Group::Two).report(alloc, Group::Two, 28),
+        _ => Err(NoMemory),
+    }
+}
+
+// It says what a row has.
+fn says(rt: &impl Abort, alloc: Global, row: &str) {
+    let (of, bytes) = row.split_once(';').expect(rt, row);
+    let data = said(alloc, of).expect(rt, row);
+    let want = bytes_of(alloc, &[], bytes).expect(rt, row);
+    must(rt, data == want, row, &data);
 }
 
 // CDBs for a unit that is not there, and the data, or the sense.
@@ -107,9 +110,14 @@ fn answers(rt: &impl Abort, alloc: Global, row: &str) {
 }
 
 #[test]
-fn of_a_unit_that_is_not_there(rt: HostRuntime) {
+fn what_a_unit_says_of_itself_and_one_that_is_not_there(rt: HostRuntime) {
+    let told = lines_of(rt.alloc(), told()).expect(&rt, "memory");
     let rows = lines_of(rt.alloc(), rows()).expect(&rt, "memory");
-    must(&rt, !rows.is_empty(), "absent", &"a table has rows");
+    let are_rows = !told.is_empty() && !rows.is_empty();
+    must(&rt, are_rows, "identity", &"tables have rows");
+    for row in &told {
+        says(&rt, rt.alloc(), row);
+    }
     for row in &rows {
         answers(&rt, rt.alloc(), row);
     }
