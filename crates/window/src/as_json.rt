@@ -90,12 +90,25 @@ fn put_member<T: AsJson>(json: &mut Writer, name: &str, value: &T) -> Result<(),
     value.put(json)
 }
 
+// Writes one more member, where those before it are written: whether all are. So many ways out of one function would cost its proof.
+fn is_added<T: AsJson>(json: &mut Writer, are_put: bool, name: &str, value: &T) -> bool {
+    are_put && put_member(json, name, value).is_ok()
+}
+
+fn end_members(json: &mut Writer, are_put: bool) -> Result<(), AllocError> {
+    if are_put {
+        end_object(json)
+    } else {
+        Err(AllocError)
+    }
+}
+
 // Writes an object: these fields of a value in this order, each as a member of its name, by which those who read the status know it.
 macro_rules! put_fields {
     ($json:ident, $value:ident: $($name:ident),*) => {{
-        begin_object($json)?;
-        $(put_member($json, stringify!($name), &$value.$name)?;)*
-        end_object($json)
+        let are_put = begin_object($json).is_ok();
+        $(let are_put = is_added($json, are_put, stringify!($name), &$value.$name);)*
+        end_members($json, are_put)
     }};
 }
 

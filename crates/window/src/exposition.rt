@@ -102,6 +102,22 @@ fn of_sessions(text: &mut String, name: &str, sessions: &[SessionView]) -> Resul
     Ok(())
 }
 
+// What is measured of the array, where it is one number.
+fn amount_of_array(view: &ArrayView, what: OfArray) -> Option<Amount> {
+    match what {
+        OfArray::Start => Some(Count(view.since)),
+        OfArray::Uptime => Some(Micros(view.uptime_micros)),
+        OfArray::Problems => Some(Count(view.problems.len() as u64)),
+        OfArray::Degraded => Some(Count(view.degraded.len() as u64)),
+        OfArray::Logins => Some(Count(view.logins)),
+        OfArray::Build
+        | OfArray::ControllersDown
+        | OfArray::RefusedLogins
+        | OfArray::Sessions
+        | OfArray::SessionCommands => None,
+    }
+}
+
 // A metric of the array.
 fn of_array(
     text: &mut String,
@@ -110,17 +126,15 @@ fn of_array(
 ) -> Result<(), AllocError> {
     let (what, name, kind, words) = metric;
     begin(text, name, kind, words)?;
+    if let Some(amount) = amount_of_array(view, what) {
+        return put(text, name, &[], amount);
+    }
     match what {
         OfArray::Build => build(text, name, view),
-        OfArray::Start => put(text, name, &[], Count(view.since)),
-        OfArray::Uptime => put(text, name, &[], Micros(view.uptime_micros)),
-        OfArray::Problems => put(text, name, &[], Count(view.problems.len() as u64)),
-        OfArray::Degraded => put(text, name, &[], Count(view.degraded.len() as u64)),
         OfArray::ControllersDown => downs(text, name, &view.controllers),
-        OfArray::Logins => put(text, name, &[], Count(view.logins)),
         OfArray::RefusedLogins => refused(text, name, &view.refused_logins),
         OfArray::Sessions => sessions(text, name, &view.controllers),
-        OfArray::SessionCommands => of_sessions(text, name, &view.sessions),
+        _ => of_sessions(text, name, &view.sessions),
     }
 }
 
@@ -186,35 +200,35 @@ fn troubles(text: &mut String, name: &str, unit: &UnitView) -> Result<(), AllocE
     Ok(())
 }
 
-// A number of a unit.
-fn of_one(
-    text: &mut String,
-    name: &str,
-    unit: &UnitView,
-    amount: Amount,
-) -> Result<(), AllocError> {
-    put(text, name, &[unit_label(unit)], amount)
+// What is measured of a unit, where it is one number.
+fn amount_of(unit: &UnitView, what: OfUnit) -> Option<Amount> {
+    match what {
+        OfUnit::Owner => Some(Count(unit.owner)),
+        OfUnit::Generation => Some(Count(unit.generation)),
+        OfUnit::Registrants => Some(Count(unit.registrants)),
+        OfUnit::ReservationType => Some(Count(unit.reservation_type)),
+        OfUnit::Entries => Some(Count(unit.entries)),
+        OfUnit::Bytes => Some(Count(BLOCK.saturating_mul(unit.blocks))),
+        OfUnit::OldestCommand => Some(Micros(unit.oldest_command_micros)),
+        OfUnit::Hung => Some(Count(unit.hung)),
+        OfUnit::Unflushed => Some(Count(unit.unflushed_bytes)),
+        OfUnit::UnflushedBound => Some(Count(unit.unflushed_bound_bytes)),
+        OfUnit::WaitedWrites => Some(Count(unit.waited_writes)),
+        OfUnit::WriteWaits => Some(Micros(unit.waited_micros)),
+        OfUnit::OwnFlushes => Some(Count(unit.own_flushes)),
+        OfUnit::Disk | OfUnit::Failures | OfUnit::Troubles => None,
+    }
 }
 
-// What is measured of a unit.
+// It.
 fn of_unit(text: &mut String, name: &str, unit: &UnitView, what: OfUnit) -> Result<(), AllocError> {
+    if let Some(amount) = amount_of(unit, what) {
+        return put(text, name, &[unit_label(unit)], amount);
+    }
     match what {
-        OfUnit::Owner => of_one(text, name, unit, Count(unit.owner)),
-        OfUnit::Generation => of_one(text, name, unit, Count(unit.generation)),
-        OfUnit::Registrants => of_one(text, name, unit, Count(unit.registrants)),
-        OfUnit::ReservationType => of_one(text, name, unit, Count(unit.reservation_type)),
-        OfUnit::Entries => of_one(text, name, unit, Count(unit.entries)),
-        OfUnit::Bytes => of_one(text, name, unit, Count(BLOCK.saturating_mul(unit.blocks))),
-        OfUnit::OldestCommand => of_one(text, name, unit, Micros(unit.oldest_command_micros)),
         OfUnit::Disk => disk(text, name, unit),
         OfUnit::Failures => all_failures(text, name, unit),
-        OfUnit::Hung => of_one(text, name, unit, Count(unit.hung)),
-        OfUnit::Troubles => troubles(text, name, unit),
-        OfUnit::Unflushed => of_one(text, name, unit, Count(unit.unflushed_bytes)),
-        OfUnit::UnflushedBound => of_one(text, name, unit, Count(unit.unflushed_bound_bytes)),
-        OfUnit::WaitedWrites => of_one(text, name, unit, Count(unit.waited_writes)),
-        OfUnit::WriteWaits => of_one(text, name, unit, Micros(unit.waited_micros)),
-        OfUnit::OwnFlushes => of_one(text, name, unit, Count(unit.own_flushes)),
+        _ => troubles(text, name, unit),
     }
 }
 
@@ -232,22 +246,7 @@ fn of_units(
     Ok(())
 }
 
-// A count of a unit by a controller, and one with a label more.
-fn of_both(
-    text: &mut String,
-    name: &str,
-    unit: &UnitView,
-    path: &PathView,
-    number: u64,
-) -> Result<(), AllocError> {
-    put(
-        text,
-        name,
-        &[unit_label(unit), path_label(path)],
-        Count(number),
-    )
-}
-
+// A count of a unit by a controller, with a label more.
 fn of_three(
     text: &mut String,
     name: &str,
@@ -364,7 +363,23 @@ fn times(text: &mut String, unit: &UnitView, path: &PathView) -> Result<(), Allo
     )
 }
 
-// What is measured of a unit by a controller.
+// What is measured of a unit by a controller, where it is one number.
+fn count_of(path: &PathView, what: OfPath) -> Option<u64> {
+    let commands = &path.commands;
+    match what {
+        OfPath::State => Some(path.state),
+        OfPath::Read => Some(commands.read_bytes),
+        OfPath::Written => Some(commands.written_bytes),
+        OfPath::Conflicts => Some(commands.reservation_conflicts),
+        OfPath::Busy => Some(commands.busy),
+        OfPath::Miscompares => Some(checks(commands, MISCOMPARE)),
+        OfPath::Flushes => Some(commands.flushes),
+        OfPath::FailedFlushes => Some(commands.failed_flushes),
+        OfPath::Operations | OfPath::Statuses | OfPath::SenseKeys | OfPath::Times => None,
+    }
+}
+
+// It.
 fn of_path(
     text: &mut String,
     name: &str,
@@ -372,20 +387,15 @@ fn of_path(
     path: &PathView,
     what: OfPath,
 ) -> Result<(), AllocError> {
-    let commands = &path.commands;
+    if let Some(count) = count_of(path, what) {
+        let labels = &[unit_label(unit), path_label(path)];
+        return put(text, name, labels, Count(count));
+    }
     match what {
-        OfPath::State => of_both(text, name, unit, path, path.state),
-        OfPath::Read => of_both(text, name, unit, path, commands.read_bytes),
-        OfPath::Written => of_both(text, name, unit, path, commands.written_bytes),
-        OfPath::Conflicts => of_both(text, name, unit, path, commands.reservation_conflicts),
-        OfPath::Busy => of_both(text, name, unit, path, commands.busy),
-        OfPath::Miscompares => of_both(text, name, unit, path, checks(commands, MISCOMPARE)),
-        OfPath::Flushes => of_both(text, name, unit, path, commands.flushes),
-        OfPath::FailedFlushes => of_both(text, name, unit, path, commands.failed_flushes),
         OfPath::Operations => operations(text, name, unit, path),
         OfPath::Statuses => statuses(text, name, unit, path),
         OfPath::SenseKeys => keys(text, name, unit, path),
-        OfPath::Times => times(text, unit, path),
+        _ => times(text, unit, path),
     }
 }
 
