@@ -156,6 +156,15 @@ impl OfUnit {
         self.hung.end(now, back);
     }
 
+    // A call on a file of it hangs, or has come back, or a file became longer.
+    fn happens(&self, now: u64, event: &Event<'_>) {
+        match event {
+            Event::Hung(..) => self.hung.fail(now, NOWHERE, 0),
+            Event::Back(..) => self.came_back(now),
+            _ => raise(&self.grew),
+        }
+    }
+
     fn seen(&self, alloc: Global) -> Result<UnitHappenings, AllocError> {
         Ok(UnitHappenings {
             disk: seen_of(alloc, &self.disk)?,
@@ -216,19 +225,9 @@ impl Ledger {
                     tally.fail(now, *place, *error);
                 }
             }
-            Event::Hung(unit, _, _) => {
+            Event::Hung(unit, _, _) | Event::Back(unit, _, _, _) | Event::Grew(unit, _) => {
                 if let Some(of_unit) = self.units.get(usize::from(*unit)) {
-                    of_unit.hung.fail(now, NOWHERE, 0);
-                }
-            }
-            Event::Back(unit, _, _, _) => {
-                if let Some(of_unit) = self.units.get(usize::from(*unit)) {
-                    of_unit.came_back(now);
-                }
-            }
-            Event::Grew(unit, _) => {
-                if let Some(of_unit) = self.units.get(usize::from(*unit)) {
-                    raise(&of_unit.grew);
+                    of_unit.happens(now, event);
                 }
             }
             _ => {}
@@ -284,20 +283,29 @@ impl Ledger {
         }
     }
 
-    /// What is seen.
-    pub(crate) fn seen(&self, alloc: Global) -> Result<Happenings, AllocError> {
+    // What is seen of refused logins, and of units.
+    fn refused(&self, alloc: Global) -> Result<Vec<u64>, AllocError> {
         let mut refused = Vec::with_capacity(alloc, self.refused.len())?;
         for count in &self.refused {
             refused.push(count.load(Ordering::Relaxed))?;
         }
+        Ok(refused)
+    }
+
+    fn units(&self, alloc: Global) -> Result<Vec<UnitHappenings>, AllocError> {
         let mut units = Vec::with_capacity(alloc, self.units.len())?;
         for of_unit in &self.units {
             units.push(of_unit.seen(alloc)?)?;
         }
+        Ok(units)
+    }
+
+    /// What is seen.
+    pub(crate) fn seen(&self, alloc: Global) -> Result<Happenings, AllocError> {
         Ok(Happenings {
             logins: self.logins.load(Ordering::Relaxed),
-            refused,
-            units,
+            refused: self.refused(alloc)?,
+            units: self.units(alloc)?,
         })
     }
 }

@@ -128,6 +128,35 @@ fn blank(alloc: Global, count: usize) -> Result<Vec<Counts>, AllocError> {
     Ok(counts)
 }
 
+// Sheets of no command, so many.
+fn blank_sheets(alloc: Global, count: usize) -> Result<Vec<Sheet>, AllocError> {
+    let mut sheets = Vec::with_capacity(alloc, count)?;
+    for _ in 0..count {
+        sheets.push(Sheet {
+            counts: Counts::none(),
+            waiting: Leaving::none(),
+            is_ahead: false,
+        })?;
+    }
+    Ok(sheets)
+}
+
+// What is seen of each session, and for how long the oldest command is served at each unit.
+fn seen_of<R: Wait>(
+    rt: &R,
+    alloc: Global,
+    live: &[Arc<Meter, Global>],
+    now: u64,
+    oldest: &mut [u64],
+) -> Result<Vec<SessionSeen>, AllocError> {
+    let mut sessions = Vec::with_capacity(alloc, live.len())?;
+    for meter in live {
+        meter.age(now, oldest);
+        sessions.push(meter.seen(rt, now)?)?;
+    }
+    Ok(sessions)
+}
+
 // Adds what a session that came by a group with this tag counted at each unit to the counts of all.
 fn add_all(sums: &mut [Counts], tag: u16, units: &[Counts]) {
     for (unit, counts) in units.iter().enumerate() {
@@ -208,11 +237,16 @@ impl Hand {
         };
         shown.last = self.last;
         shown.ended = now;
-        for (there, sheet) in shown.units.iter_mut().zip(&mut self.units) {
-            if sheet.is_ahead {
-                *there = sheet.counts;
-                sheet.is_ahead = false;
-            }
+        show_each(&mut shown.units, &mut self.units);
+    }
+}
+
+// Shows what was counted on each sheet that is ahead.
+fn show_each(shown: &mut [Counts], sheets: &mut [Sheet]) {
+    for (there, sheet) in shown.iter_mut().zip(sheets) {
+        if sheet.is_ahead {
+            *there = sheet.counts;
+            sheet.is_ahead = false;
         }
     }
 }
@@ -244,6 +278,71 @@ impl Meter {
         {
             *longest = (*longest).max(now.saturating_sub(began));
         }
+    }
+}
+
+impl Book {
+    // A session begins.
+    fn enter(
+        &mut self,
+        alloc: Global,
+        who: Visit,
+        shown: Shown,
+    ) -> Result<Arc<Meter, Global>, AllocError> {
+        let meter = Meter {
+            number: self.begun,
+            who,
+            serving: AtomicU64::new(0),
+            shown: Mutex::new(shown),
+        };
+        let meter = Arc::new(alloc, meter)?;
+        self.live.push(Arc::try_clone(&meter)?)?;
+        self.begun = self.begun.wrapping_add(1);
+        Ok(meter)
+    }
+
+    // A session has ended, of which this was counted at each unit.
+    fn leave(&mut self, meter: &Meter, units: &[Sheet]) {
+        for (unit, sheet) in units.iter().enumerate() {
+            add_at(&mut self.ended, meter.who.path.tag, unit, &sheet.counts);
+        }
+        self.live.retain(|other| other.number != meter.number);
+    }
+
+    // Keeps what is counted until this second.
+    fn keep<R: Wait>(&mut self, rt: &R, second: u64) {
+        self.recent.begin(second);
+        self.recent.add_pairs(&self.ended);
+        for meter in &self.live {
+            self.recent.add(&meter.shown.lock(rt).units);
+        }
+    }
+
+    // The sessions that live.
+    fn live(&self, alloc: Global) -> Result<Vec<Arc<Meter, Global>>, AllocError> {
+        let mut live = Vec::with_capacity(alloc, self.live.len())?;
+        for meter in &self.live {
+            live.push(Arc::try_clone(meter)?)?;
+        }
+        Ok(live)
+    }
+
+    // Adds what is counted of them.
+    fn add_to<R: Wait>(&self, rt: &R, counts: &mut [Counts]) {
+        for meter in &self.live {
+            add_all(counts, meter.who.path.tag, &meter.shown.lock(rt).units);
+        }
+    }
+
+    // They, and what is counted of all of them together with those that have ended.
+    fn sum<R: Wait>(
+        &self,
+        rt: &R,
+        alloc: Global,
+    ) -> Result<(Vec<Arc<Meter, Global>>, Vec<Counts>), AllocError> {
+        let mut counts = Vec::from_slice(alloc, &self.ended)?;
+        self.add_to(rt, &mut counts);
+        Ok((self.live(alloc)?, counts))
     }
 }
 
@@ -318,28 +417,11 @@ impl Meters {
             last: None,
             ended: 0,
         };
-        let mut units = Vec::with_capacity(alloc, self.units)?;
-        for _ in 0..self.units {
-            units.push(Sheet {
-                counts: Counts::none(),
-                waiting: Leaving::none(),
-                is_ahead: false,
-            })?;
-        }
-        let mut book = self.book.lock(rt);
-        let number = book.begun;
-        let meter = Meter {
-            number,
-            who,
-            serving: AtomicU64::new(0),
-            shown: Mutex::new(shown),
-        };
-        let meter = Arc::new(alloc, meter)?;
-        book.live.push(Arc::try_clone(&meter)?)?;
-        book.begun = number.wrapping_add(1);
+        let units = blank_sheets(alloc, self.units)?;
+        let ticks = Arc::try_clone(&self.ticks)?;
         Ok(Hand {
-            meter,
-            ticks: Arc::try_clone(&self.ticks)?,
+            meter: self.book.lock(rt).enter(alloc, who, shown)?,
+            ticks,
             units,
             last: None,
             is_waiting: false,
@@ -350,45 +432,12 @@ impl Meters {
     /// A session has ended.
     pub fn leave<R: Wait + Clock>(&self, rt: &R, mut hand: Hand) {
         hand.leave(rt);
-        let Hand { meter, units, .. } = hand;
-        let mut book = self.book.lock(rt);
-        let book = &mut *book;
-        for (unit, sheet) in units.iter().enumerate() {
-            add_at(&mut book.ended, meter.who.path.tag, unit, &sheet.counts);
-        }
-        book.live.retain(|other| other.number != meter.number);
-    }
-
-    // The sessions that live, and what is counted of all of them together with those that have ended.
-    fn sum<R: Wait>(
-        &self,
-        rt: &R,
-        alloc: Global,
-    ) -> Result<(Vec<Arc<Meter, Global>>, Vec<Counts>), AllocError> {
-        let book = self.book.lock(rt);
-        let mut counts = Vec::from_slice(alloc, &book.ended)?;
-        let mut live = Vec::with_capacity(alloc, book.live.len())?;
-        for meter in &book.live {
-            add_all(&mut counts, meter.who.path.tag, &meter.shown.lock(rt).units);
-            live.push(Arc::try_clone(meter)?)?;
-        }
-        Ok((live, counts))
+        self.book.lock(rt).leave(&hand.meter, &hand.units);
     }
 
     /// Keeps what is counted until now, so long after the beginning of 1970.
     pub fn keep<R: Wait>(&self, rt: &R, now: Duration) {
-        let mut book = self.book.lock(rt);
-        let Book {
-            live,
-            ended,
-            recent,
-            ..
-        } = &mut *book;
-        recent.begin(now.as_secs());
-        recent.add_pairs(ended);
-        for meter in live {
-            recent.add(&meter.shown.lock(rt).units);
-        }
+        self.book.lock(rt).keep(rt, now.as_secs());
     }
 
     /// What was kept of late, the oldest first.
@@ -399,22 +448,14 @@ impl Meters {
     /// What there is to see, at this time of the clock that never goes back.
     pub fn look<R: Wait>(&self, rt: &R, alloc: Global, now: Duration) -> Result<Seen, AllocError> {
         let now = micros(now);
-        let (live, counts) = self.sum(rt, alloc)?;
-        let mut sessions = Vec::with_capacity(alloc, live.len())?;
-        let mut oldest = Vec::with_capacity(alloc, self.units)?;
-        for _ in 0..self.units {
-            oldest.push(0)?;
-        }
-        for meter in &live {
-            meter.age(now, &mut oldest);
-            sessions.push(meter.seen(rt, now)?)?;
-        }
-        let happened = self.happened.seen(alloc)?;
+        let (live, counts) = self.book.lock(rt).sum(rt, alloc)?;
+        let mut oldest = vec![in alloc; 0; self.units]?;
+        let sessions = seen_of(rt, alloc, &live, now, &mut oldest)?;
         Ok(Seen {
             sessions,
             counts,
             oldest,
-            happened,
+            happened: self.happened.seen(alloc)?,
         })
     }
 }

@@ -3,7 +3,7 @@ ghost use Rattle.std.specs.Prelude.{◌≡◌, ◌∷◌, [], OnOk};
 ghost use Rattle.std.specs.Fmt.{decimal};
 ghost use Rattle.std.specs.String.{string_bytes};
 ghost use Rattle.event_log.specs.Text.{by_in, cause_in, command_in, error_in, failed_in, file_in, initiator_in, joined, parts, path_in};
-ghost use Rattle.event_log.specs.Text.{portal_in, sense_in, session_in, set_in, stay_in, unusable_in, why_in};
+ghost use Rattle.event_log.specs.Text.{portal_in, sense_in, session_in, stay_in, unusable_in, why_in};
 ghost use Rattle.event_log.specs.declared.event.Event.TheVariants as events;
 ghost use Rattle.event_log.specs.declared.words.Why.TheVariants as whys;
 
@@ -268,9 +268,10 @@ fn set(
     group: u16,
     first: Access,
     second: Access,
+    whom: &By<'_>,
 ) -> Result<(), AllocError>
     ensures { OnOk result (string_bytes line.new
-        ≡ joined (string_bytes line.old) (set_in unit group first second [])) }
+        ≡ joined (string_bytes line.old) (parts (events.GroupsSet unit group first second whom.now))) }
 {
     put(
         line,
@@ -284,7 +285,8 @@ fn set(
             Text(","),
             Text(second.text()),
         ],
-    )
+    )?;
+    by(line, whom)
 }
 
 // That a unit was to move, and why it stays.
@@ -420,6 +422,47 @@ fn busy(
     session(line, who, group)
 }
 
+fn cannot_control(line: &mut String, errno: u32) -> Result<(), AllocError>
+    ensures { OnOk result (string_bytes line.new
+        ≡ joined (string_bytes line.old) (parts (events.CannotControl errno))) }
+{
+    line.push_str("event=cannot_control")?;
+    error(line, errno)
+}
+
+fn connection_ended(line: &mut String, by: &Path, end: Why) -> Result<(), AllocError>
+    ensures { OnOk result (string_bytes line.new
+        ≡ joined (string_bytes line.old) (parts (events.ConnectionEnded by.now end))) }
+{
+    line.push_str("event=connection_ended")?;
+    path(line, by)?;
+    why(line, end)
+}
+
+fn reset(line: &mut String, unit: u8, who: &Initiator<'_>, group: u16) -> Result<(), AllocError>
+    ensures { OnOk result (string_bytes line.new
+        ≡ joined (string_bytes line.old) (parts (events.Reset unit who.now group))) }
+{
+    counted(line, "event=unit_reset unit=", u64::from(unit))?;
+    session(line, who, group)
+}
+
+fn command_failed(
+    line: &mut String,
+    unit: u8,
+    operation: Operation,
+    told: Sense,
+    who: &Initiator<'_>,
+    group: u16,
+) -> Result<(), AllocError>
+    ensures { OnOk result (string_bytes line.new
+        ≡ joined (string_bytes line.old) (parts (events.CommandFailed unit operation told who.now group))) }
+{
+    command(line, "event=command_failed", unit, operation)?;
+    sense(line, told)?;
+    session(line, who, group)
+}
+
 /// Spells an event behind what a line has.
 pub fn spell(line: &mut String, event: &Event<'_>) -> Result<(), AllocError>
     ensures { OnOk result (string_bytes line.new ≡ joined (string_bytes line.old) (parts event.now)) }
@@ -432,38 +475,25 @@ pub fn spell(line: &mut String, event: &Event<'_>) -> Result<(), AllocError>
             portal(line, "event=cannot_listen", *controller, *at)?;
             error(line, *errno)
         }
-        Event::CannotControl(errno) => {
-            line.push_str("event=cannot_control")?;
-            error(line, *errno)
-        }
+        Event::CannotControl(errno) => cannot_control(line, *errno),
         Event::Ready => line.push_str("event=ready"),
         Event::Stopping => line.push_str("event=stopping"),
         Event::LoggedIn(who, by, tsih, kind) => logged_in(line, who, by, *tsih, *kind),
         Event::LoginRefused(who, by, status, lacks) => refused(line, who, by, *status, *lacks),
         Event::SessionEnded(who, by, tsih, end) => session_ended(line, who, by, *tsih, *end),
-        Event::ConnectionEnded(by, end) => {
-            line.push_str("event=connection_ended")?;
-            path(line, by)?;
-            why(line, *end)
-        }
+        Event::ConnectionEnded(by, end) => connection_ended(line, by, *end),
         Event::ConnectionsEnded(count) => counted(line, "event=connections_ended count=", *count),
         Event::GroupsSet(unit, group, first, second, whom) => {
-            set(line, *unit, *group, *first, *second)?;
-            by(line, whom)
+            set(line, *unit, *group, *first, *second, whom)
         }
         Event::NotMoved(unit, group, end, whom) => {
             stay(line, *unit, *group, *end)?;
             by(line, whom)
         }
         Event::Reserved(unit, asked, who, group) => reserved(line, *unit, asked, who, *group),
-        Event::Reset(unit, who, group) => {
-            counted(line, "event=unit_reset unit=", u64::from(*unit))?;
-            session(line, who, *group)
-        }
+        Event::Reset(unit, who, group) => reset(line, *unit, who, *group),
         Event::CommandFailed(unit, operation, told, who, group) => {
-            command(line, "event=command_failed", *unit, *operation)?;
-            sense(line, *told)?;
-            session(line, who, *group)
+            command_failed(line, *unit, *operation, *told, who, *group)
         }
         Event::Busy(unit, operation, who, group) => busy(line, *unit, *operation, who, *group),
         Event::DeviceFailed(unit, part, call, place, errno) => {

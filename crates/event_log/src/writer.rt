@@ -99,6 +99,20 @@ fn take<R: Wait + Clock>(rt: &R, shared: &Shared, lines: &mut String, is_last: b
     dropped
 }
 
+// Writes the lines that were taken, of which the last tells of so many that were dropped. Where they cannot be written, they are too.
+fn write_taken<P: Page>(shared: &Shared, page: &P, writer: &mut Writer, dropped: u64) {
+    writer.open(page);
+    let is_written = writer.write();
+    shared
+        .failing
+        .store(u64::from(!is_written), Ordering::SeqCst);
+    if !is_written {
+        let told = if dropped == 0 { 0 } else { 1 };
+        let lost = lines_in(writer.lines.as_str()).saturating_sub(told);
+        shared.drop_lines(lost.saturating_add(dropped));
+    }
+}
+
 // Writes what is told, until the log is closed.
 fn write_on<R: Wait + Clock, P: Page>(rt: &R, shared: &Shared, page: &P, writer: &mut Writer) {
     for _ in rt.forever() {
@@ -106,16 +120,7 @@ fn write_on<R: Wait + Clock, P: Page>(rt: &R, shared: &Shared, page: &P, writer:
         let is_last = shared.end.load(Ordering::SeqCst) != 0;
         let dropped = take(rt, shared, &mut writer.lines, is_last);
         if !writer.lines.is_empty() {
-            writer.open(page);
-            let is_written = writer.write();
-            shared
-                .failing
-                .store(u64::from(!is_written), Ordering::SeqCst);
-            if !is_written {
-                let told = if dropped == 0 { 0 } else { 1 };
-                let lost = lines_in(writer.lines.as_str()).saturating_sub(told);
-                shared.drop_lines(lost.saturating_add(dropped));
-            }
+            write_taken(shared, page, writer, dropped);
         }
         if is_last {
             break;
