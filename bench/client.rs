@@ -87,8 +87,10 @@ impl Session {
             "InitiatorName=iqn.2000-01.test:load{number}\0TargetName={target}\0SessionType=Normal\0AuthMethod=None\0"
         );
         session.login_step(0x81, number, first.as_bytes())?;
+        // a key that is not here a target may offer by itself, and wait for its answer
         let second = "HeaderDigest=None\0DataDigest=None\0InitialR2T=Yes\0ImmediateData=Yes\0MaxBurstLength=262144\0\
-            FirstBurstLength=65536\0MaxRecvDataSegmentLength=262144\0MaxOutstandingR2T=1\0";
+            FirstBurstLength=65536\0MaxRecvDataSegmentLength=262144\0MaxOutstandingR2T=1\0MaxConnections=1\0\
+            DefaultTime2Wait=2\0DefaultTime2Retain=0\0DataPDUInOrder=Yes\0DataSequenceInOrder=Yes\0ErrorRecoveryLevel=0\0";
         let answer = session.login_step(0x87, number, second.as_bytes())?;
         for pair in answer.split('\0') {
             if let Some((key, value)) = pair.split_once('=') {
@@ -116,6 +118,9 @@ impl Session {
         let pdu = self.pdu()?;
         if pdu.header[0] & 0x3F != 0x23 || pdu.header[36] != 0 {
             return Err(broken("login refused"));
+        }
+        if pdu.header[1] & 0x80 == 0 {
+            return Err(broken("the target wants more of a login"));
         }
         self.count(&pdu.header);
         Ok(String::from_utf8_lossy(&self.input[pdu.data]).into_owned())
