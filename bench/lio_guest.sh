@@ -43,8 +43,10 @@ mkfifo /memory/in /memory/out
 begin() {
     "/$1" --port 3270 "/memory/$1" < /memory/in > /memory/out &
     exec 3> /memory/in 4< /memory/out
-    read -r line <&4
-    [ "$line" = "arrayd: ready" ]
+    if ! read -r line <&4 || [ "$line" != "arrayd: ready" ]; then
+        echo "$1 does not get ready"
+        exit 1
+    fi
 }
 end() {
     echo quit >&3
