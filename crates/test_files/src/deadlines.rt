@@ -1,11 +1,13 @@
 //! Calls that have a deadline, over a disk that counts what it is asked, and stands still when it is told to.
 ghost use Rattle.std.specs.Prelude.{◌≡◌, [], true, false};
 ghost use Rattle.std.specs.Arc.{arc_value};
+ghost use Rattle.block_file.specs.Failures.{last_count};
 
 use crate::ends::{fail, must};
 use crate::runs::{reads, writes};
 use block_file::{Blocks, DeviceFailed, KeepOpener, MemBlocks};
 use deadline::{Deadlined, DeadlinedPreparer, Watch};
+use disk_files::FileDevice;
 use disk_preparer::{BlockMemory, Node, OnDisk, Preparer};
 use event_log::{Log, Part};
 use std::alloc::Global;
@@ -142,6 +144,37 @@ impl<B: Blocks, R: Clock + Drop> Blocks for Seeing<B, R> {
     fn flush(&mut self) -> Result<(), DeviceFailed> {
         self.seen.call(&self.rt, &self.seen.flushes);
         self.inner.flush()
+    }
+}
+
+// It lies in no file, and says nothing of one: a count at its end.
+impl<B: Blocks, R: Clock + Drop> FileDevice for Seeing<B, R> {
+    ghost has_read = { λ disk offset bytes. Unit {0} };
+
+    ghost has_written = { λ disk offset bytes. Unit {0} };
+
+    ghost lasts = { λ disk writes. Unit {0} };
+
+    ghost writes = { λ d. last_count };
+
+    fn disk(&self) -> Node {
+        NO_FILE
+    }
+
+    fn ended_writes(&self) -> u64 {
+        u64::MAX
+    }
+
+    fn read_of(&mut self, first: u32, bytes: &mut [u8]) -> Result<(), DeviceFailed> {
+        self.read_run(first, bytes)
+    }
+
+    fn write_of(&mut self, first: u32, bytes: &[u8]) -> Result<(), DeviceFailed> {
+        self.write_run(first, bytes)
+    }
+
+    fn flush_of(&mut self) -> Result<(), DeviceFailed> {
+        self.flush()
     }
 }
 
