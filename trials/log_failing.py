@@ -165,21 +165,21 @@ def each_call_on_registrations(folder, log):
         array.quit()
 
 
-@case
-def each_cause_of_a_file_that_cannot_be_used(folder, log):
+def each_cause(folder, log, deadline):
     fail = calls(folder)
+    more = dict(fail.environment, **deadline)
     path = disk(folder)
     fail.let("flock", errno.ENOLCK)
-    is_so("no lock", ended([path], log=log.path, more=fail.environment), (1, "arrayd: cannot use unit 0"))
+    is_so("no lock", ended([path], log=log.path, more=more), (1, "arrayd: cannot use unit 0"))
     log.find("cannot_use", unit="0", file="disk", disk=path, why="not_locked")
     unusable = (1, "arrayd: cannot use registration file 0")
     fail.let("rename", errno.EROFS)
-    is_so("not made", ended([path], log=log.path, more=fail.environment), unusable)
+    is_so("not made", ended([path], log=log.path, more=more), unusable)
     log.find("cannot_use", unit="0", file="registrations", why="not_made")
     with Array([path]) as array:
         array.quit()
     fail.let("pread", errno.EIO, times=failing.EVER)
-    is_so("not read", ended([path], log=log.path, more=fail.environment), unusable)
+    is_so("not read", ended([path], log=log.path, more=more), unusable)
     fail.stop()
     log.find("device_failed", file="registrations", call="read", errno="5", error="EIO")
     log.find("cannot_use", file="registrations", why="device_failed")
@@ -188,6 +188,16 @@ def each_cause_of_a_file_that_cannot_be_used(folder, log):
         file.write(b"\x00\x09")
     is_so("another version", ended([path], log=log.path), unusable)
     log.find("cannot_use", file="registrations", why="unknown_version")
+
+
+@case
+def each_cause_of_a_file_that_cannot_be_used(folder, log):
+    each_cause(folder, log, {})
+
+
+@case
+def each_cause_where_calls_have_a_deadline(folder, log):
+    each_cause(folder, log, {"ARRAYD_DEADLINE": "20"})
 
 
 # ---- want

@@ -7,11 +7,13 @@ use crate::disks::{OpenArray, fault_of, open_blocks, open_preparer, open_record,
 use crate::served::{serve, tell_want};
 use aptpl_file::RegFile;
 use array_administration::Administration;
-use block_file::{Blocks, KeepOpener, Opener};
+use block_file::{KeepOpener, Opener};
 use command_line::{Fault, MAX_UNITS, Options};
 use deadline::{Deadlined, DeadlinedOpener, DeadlinedPreparer, Watch};
-use disk_files::{DiskLock, FileBlocks, FileOpener, FilePreparer, NamedBlocks, SystemFile};
-use disk_preparer::{Node, OnDisk, Preparer};
+use disk_files::{
+    DiskLock, FileBlocks, FileDevice, FileOpener, FilePreparer, NamedBlocks, SystemFile,
+};
+use disk_preparer::{Node, Preparer};
 use event_log::{Log, Part, Unusable};
 use reservations::Record;
 use scsi_types::Place;
@@ -28,7 +30,7 @@ use unit_state::{Unit, laws};
 
 /// What a unit will be over: its disk with what opens it anew and its preparer, its registration file, and the locks of both.
 #[derive(Drop)]
-pub struct Parts<B: Blocks + OnDisk, F: Blocks + OnDisk, O: Opener<B>, P: Preparer> {
+pub struct Parts<B: FileDevice, F: FileDevice, O: Opener<B>, P: Preparer> {
     place: Place,
     // Which file is the disk, and which holds its registrations.
     disk: Node,
@@ -122,7 +124,7 @@ fn watch(
 // A registration file by a thread of its own, and its record.
 fn start_record<
     R: Threads + Wait + Clock + Clone + Drop + Send + Sync + 'static,
-    F: Blocks + OnDisk + Send + 'static,
+    F: FileDevice + Send + 'static,
 >(
     rt: &R,
     alloc: Global,
@@ -145,8 +147,8 @@ fn start_record<
 }
 
 impl<
-    B: Blocks + OnDisk + Send + 'static,
-    F: Blocks + OnDisk + Send + 'static,
+    B: FileDevice + Send + 'static,
+    F: FileDevice + Send + 'static,
     O: Opener<B> + Send + 'static,
     P: Preparer + Send + Sync + 'static,
 > Parts<B, F, O, P> {
@@ -197,8 +199,8 @@ impl<
 // The array over these parts, in order.
 fn start_timed<
     R: Threads + Wait + Clock + Clone + Drop + Send + Sync + 'static,
-    B: Blocks + OnDisk + Send + 'static,
-    F: Blocks + OnDisk + Send + 'static,
+    B: FileDevice + Send + 'static,
+    F: FileDevice + Send + 'static,
     O: Opener<B> + Send + 'static,
     P: Preparer + Send + Sync + 'static,
 >(
@@ -237,8 +239,8 @@ pub fn serve_timed<
         + Send
         + Sync
         + 'static,
-    B: Blocks + OnDisk + Send + Sync + 'static,
-    F: Blocks + OnDisk + Send + Sync + 'static,
+    B: FileDevice + Send + Sync + 'static,
+    F: FileDevice + Send + Sync + 'static,
     O: Opener<B> + Send + Sync + 'static,
     P: Preparer + Send + Sync + 'static,
     I: BufRead + Drop,

@@ -65,6 +65,12 @@ module _ {E : Type 0} (serial : E → ℕ) (given : E → List ℕ) where
       (w : Known) × (act : Act (Option E)) × (after : Slot (Option E)) × Valid (slot ∷ []) c act
       × (homes_after (slot ∷ []) c act ≡ after ∷ []) × (w.role ≡ role) × lies w other (f turn) after × then turn (w, carried_after c act)
 
+  -- an end that leaves the errand where it is
+  stays : (lies : Known → Known → ℕ → Slot (Option E) → Type 0) (role : ℕ) (c : List (ℕ × Option E)) (turn : ℕ) (slot : Slot (Option E))
+      (other v : Known) (then : ℕ → Me (Option E) Known → Type 0) (f : ℕ → ℕ) → v.role ≡ role → lies v other (f turn) slot
+      → then turn (v, c) → Owes lies role c turn slot other then v f
+  stays lies role c turn slot other v then f is there told = (v, keeps, slot, tt, refl, is, there, told)
+
   abbrev pub LiesFirst : Known → Known → ℕ → Slot (Option E) → Type 0
   LiesFirst a b turn slot = Lies serial given turn slot a b
 
@@ -174,19 +180,11 @@ module _ {E : Type 0} (serial : E → ℕ) (given : E → List ℕ) where
   asker_stays id v c f one away kept =
       asker_step id v c f (λ n w. w ≡ (v, c)) one
       (λ turn slot b lies.
-      ⊎_elim (λ home. (v, keeps, slot, tt, refl, one, inl home, refl))
+      let now = stays LiesFirst 1 c turn slot b v (λ n w. w ≡ (v, c)) f one in
+      ⊎_elim (λ home. now (inl home) refl)
       (λ out.
       ⊎_elim (λ mine. clash v.holds mine.1 away)
-      (λ theirs. (
-        v,
-        keeps,
-        slot,
-        tt,
-        refl,
-        one,
-        inr (inr (theirs.0, theirs.1, theirs.2, theirs.3, theirs.4, kept turn theirs.5)),
-        refl,
-      ))
+      (λ theirs. now (inr (inr (theirs.0, theirs.1, theirs.2, theirs.3, theirs.4, kept turn theirs.5))) refl)
       out)
       lies)
 
@@ -196,19 +194,11 @@ module _ {E : Type 0} (serial : E → ℕ) (given : E → List ℕ) where
   asker_ends id v c one =
       asker_step id v c (λ _. 5) (λ n w. w ≡ (v, c)) one
       (λ turn slot b lies.
-      ⊎_elim (λ home. (v, keeps, slot, tt, refl, one, inl home, refl))
+      let now = stays LiesFirst 1 c turn slot b v (λ n w. w ≡ (v, c)) (λ _. 5) one in
+      ⊎_elim (λ home. now (inl home) refl)
       (λ out.
-      ⊎_elim (λ mine. (v, keeps, slot, tt, refl, one, inr (inl (mine.0, mine.1, mine.2, refl)), refl))
-      (λ theirs. (
-        v,
-        keeps,
-        slot,
-        tt,
-        refl,
-        one,
-        inr (inr (theirs.0, theirs.1, theirs.2, theirs.3, theirs.4, refl)),
-        refl,
-      ))
+      ⊎_elim (λ mine. now (inr (inl (mine.0, mine.1, mine.2, refl))) refl)
+      (λ theirs. now (inr (inr (theirs.0, theirs.1, theirs.2, theirs.3, theirs.4, refl))) refl)
       out)
       lies)
 
@@ -228,16 +218,8 @@ module _ {E : Type 0} (serial : E → ℕ) (given : E → List ℕ) where
   )
   asker_takes_at st v turn slot b one away (inr (inl mine)) true e = clash v.holds mine.1 away
   asker_takes_at st v turn slot b one away (inr (inr theirs)) true e = clash (is_back_at turn) e theirs.5
-  asker_takes_at st v turn slot b one away lies false e = (
-    v,
-    keeps,
-    slot,
-    tt,
-    refl,
-    one,
-    lies,
-    tells_not_back (v, []) turn e,
-  )
+  asker_takes_at st v turn slot b one away lies false e =
+      stays LiesFirst 1 [] turn slot b v (λ n w. TakesBack serial given st (v, []) n w) (λ n. n) one lies (tells_not_back (v, []) turn e)
 
   pub asker_takes : (st : Step (Option E)) (id : ℕ) (v : Known) → v.role ≡ 1 → v.holds ≡ false
       → Allows K 1 id (v, []) 8 (λ n. n) (TakesBack serial given st (v, []))
@@ -286,9 +268,10 @@ module _ {E : Type 0} (serial : E → ℕ) (given : E → List ℕ) where
   thread_stays id v c f two away kept =
       thread_step id v c f (λ n w. w ≡ (v, c)) two
       (λ turn slot a lies.
-      ⊎_elim (λ home. (v, keeps, slot, tt, refl, two, inl home, refl))
+      let now = stays LiesSecond 2 c turn slot a v (λ n w. w ≡ (v, c)) f two in
+      ⊎_elim (λ home. now (inl home) refl)
       (λ out.
-      ⊎_elim (λ mine. (v, keeps, slot, tt, refl, two, inr (inl (mine.0, mine.1, mine.2, kept turn mine.3)), refl))
+      ⊎_elim (λ mine. now (inr (inl (mine.0, mine.1, mine.2, kept turn mine.3))) refl)
       (λ theirs. clash v.holds theirs.2 away) out)
       lies)
 
@@ -313,16 +296,8 @@ module _ {E : Type 0} (serial : E → ℕ) (given : E → List ℕ) where
       fits_as (Some y) k f = f
   thread_takes_at st v turn slot a two away (inr (inl mine)) true e = clash (is_asked_at turn) e mine.3
   thread_takes_at st v turn slot a two away (inr (inr theirs)) true e = clash v.holds theirs.2 away
-  thread_takes_at st v turn slot a two away lies false e = (
-    v,
-    keeps,
-    slot,
-    tt,
-    refl,
-    two,
-    lies,
-    tells_not_got (v, []) turn e,
-  )
+  thread_takes_at st v turn slot a two away lies false e =
+      stays LiesSecond 2 [] turn slot a v (λ n w. Takes serial given st (v, []) n w) (λ n. n) two lies (tells_not_got (v, []) turn e)
 
   pub thread_takes : (st : Step (Option E)) (id : ℕ) (v : Known) → v.role ≡ 2 → v.holds ≡ false
       → Allows K 1 id (v, []) 8 (λ n. n) (Takes serial given st (v, []))

@@ -1,16 +1,18 @@
 //! A device whose calls have a deadline.
-ghost use Rattle.std.specs.Prelude.{◌≡◌, ◌<◌, ◌≤◌, ◌+◌, ◌^◌, true, [], false, min, length, List, ℕ, IfOk, IfSome, IsTrue, OnOk, OnErr};
+ghost use Rattle.std.specs.Prelude.{◌≡◌, ◌<◌, ◌≤◌, ◌+◌, ◌^◌, true, [], false, min, length, List, ℕ, Some};
+ghost use Rattle.std.specs.Prelude.{IfOk, IfSome, IsTrue, OnOk, OnErr};
 ghost use Rattle.std.specs.Arc.{arc_value};
 ghost use Rattle.std.proofs.Common.{arith};
 ghost use Rattle.block_file.specs.Cut.{IsRun};
 ghost use Rattle.block_file.specs.Failures.{last_count};
 ghost use Rattle.deadline.specs.Counted.{CountsRead, CountsWrite};
-ghost use Rattle.deadline.specs.Answers.{HasAnswered, HasFlushed, HasOpened, HasRead, HasWritten, WereGiven};
+ghost use Rattle.deadline.specs.Answers.{calls, HasAnswered, HasFlushed, HasOpened, HasRead, HasWritten, WereGiven};
 
 use crate::asker::{Asker, Turn};
 use crate::errand::{DeviceRunner, Errand, Wanted};
 use crate::watch::Watch;
 use block_file::{Blocks, DeviceFailed, Opener};
+use disk_files::FileDevice;
 use disk_preparer::{BlockMemory, Node, OnDisk};
 use std::alloc::Global;
 use std::io;
@@ -20,9 +22,10 @@ use std::time::Clock;
 
 /// A device whose calls its thread makes. One that does not come back in time has failed, and so does each later one until it has.
 ///
-/// What is answered is what the device answered, or that it failed. Of its contents nothing is claimed: a write that has failed for
-/// time may land at any moment until it comes back, and no read is answered before.
-pub struct Deadlined<R: Wait + Clock + Drop, B: Blocks, O: Opener<B>> {
+/// What is answered is what the device answered, or that it failed: which calls were made of its file it says as the device does. Of its
+/// contents nothing is claimed: a write that has failed for time may land at any moment until it comes back, and no read is answered
+/// before.
+pub struct Deadlined<R: Wait + Clock + Drop, B: FileDevice, O: Opener<B>> {
     rt: R,
     asker: Mutex<Asker<R, Errand<B, O>>>,
     count: u32,
@@ -33,11 +36,13 @@ pub struct Deadlined<R: Wait + Clock + Drop, B: Blocks, O: Opener<B>> {
     failed_writes: u64,
     // How many writes have come back, or are waited for no more; and how many calls came back that were not.
     writes: u64,
+    // How many of its writes the device has told as ended, with the last one that was done.
+    ended: u64,
     ghost fits: { count < 2 ^ 32 },
     ghost some: { 0 < count },
 }
 
-impl<R: Wait + Clock + Drop, B: Blocks, O: Opener<B>> Drop for Deadlined<R, B, O> {
+impl<R: Wait + Clock + Drop, B: FileDevice, O: Opener<B>> Drop for Deadlined<R, B, O> {
     fn drop(self) {
         let Self {
             rt: _,
@@ -48,13 +53,14 @@ impl<R: Wait + Clock + Drop, B: Blocks, O: Opener<B>> Drop for Deadlined<R, B, O
             failed_reads: _,
             failed_writes: _,
             writes: _,
+            ended: _,
         } = self;
     }
 }
 
 impl<
     R: Threads + Wait + Clock + Clone + Drop + Send + 'static,
-    B: Blocks + OnDisk + Send + 'static,
+    B: FileDevice + Send + 'static,
     O: Opener<B> + Send + 'static,
 > Deadlined<R, B, O> {
     /// Hands a device, which is over this file, and what opens it anew, to a thread of its own.
@@ -70,7 +76,8 @@ impl<
         requires disk { node ≡ B.OnDisk.disk blocks }
         requires watched { (arc_value watch.now).node ≡ node }
         ensures disk { IfOk result (λ d. d.node ≡ node) }
-        ensures unused { IfOk result (λ d. (d.count ≡ B.size blocks) × (d.opened ≡ 0) × (d.failed_reads ≡ 0) × (d.failed_writes ≡ 0)) }
+        ensures unused { IfOk result (λ d. (d.count ≡ B.size blocks) × (d.opened ≡ 0) × (d.failed_reads ≡ 0) × (d.failed_writes ≡ 0)
+            × (d.ended ≡ 0)) }
     {
         let count = blocks.count();
         let errand = Errand::new(alloc)?;
@@ -85,13 +92,14 @@ impl<
             failed_reads: 0,
             failed_writes: 0,
             writes: 0,
+            ended: 0,
         })
     }
 }
 
 // Takes the right to ask. Where the call before came late, what it was has landed since: it counts as one more write that came back, so
 // that nothing is taken that was read beside the device before.
-fn take_by<R: Wait + Clock + Drop, B: Blocks, O: Opener<B>>(
+fn take_by<R: Wait + Clock + Drop, B: FileDevice, O: Opener<B>>(
     asker: &mut Asker<R, Errand<B, O>>,
     writes: &mut u64,
 ) -> Option<(Turn, Errand<B, O>)>
@@ -106,38 +114,41 @@ fn take_by<R: Wait + Clock + Drop, B: Blocks, O: Opener<B>>(
     Some(taken)
 }
 
-// Reads a run, by the thread of the device.
-fn read_by<R: Wait + Clock + Drop, B: Blocks, O: Opener<B>>(
+// Reads a run of this file, by the thread of its device.
+fn read_by<R: Wait + Clock + Drop, B: FileDevice, O: Opener<B>>(
     asker: &mut Asker<R, Errand<B, O>>,
     writes: &mut u64,
+    disk: Node,
     first: u32,
     bytes: &mut [u8],
 ) -> bool
-    ensures answered { IsTrue result → HasRead B.claims B.contents first bytes.new }
+    ensures answered { IsTrue result → HasRead (calls B.Blocks B.OnDisk B.has_read B.has_written B.lasts B.writes O.Opener)
+        disk first bytes.new }
     ensures rises { writes.old ≤ writes.new }
 {
-    let wanted = Wanted::Read(first);
     let Some((turn, errand)) = take_by(asker, writes) else {
         return false;
     };
-    let errand = errand.with_room(turn.serial, wanted, bytes.len());
+    let errand = errand.with_room(turn.serial, Wanted::Read(first), bytes.len());
     let Some(answered) = asker.ask(turn, errand) else {
         return false;
     };
-    let is_read = answered.gives(wanted, bytes);
+    let is_read = answered.gives(disk, first, bytes);
     asker.keep(answered);
     is_read
 }
 
-// Reads a run into memory that goes to the thread of the device and comes back, by this right to ask and this errand.
-fn read_into_by<R: Wait + Clock + Drop, B: Blocks, O: Opener<B>>(
+// Reads a run of this file into memory that goes to the thread of its device and comes back, by this right to ask and this errand.
+fn read_into_by<R: Wait + Clock + Drop, B: FileDevice, O: Opener<B>>(
     asker: &mut Asker<R, Errand<B, O>>,
     turn: Turn,
     errand: Errand<B, O>,
+    disk: Node,
     first: u32,
     bytes: Vec<u8>,
 ) -> Option<Vec<u8>>
-    ensures read { IfSome result (λ blocks. HasRead B.claims B.contents first blocks.items) }
+    ensures read { IfSome result (λ blocks. HasRead (calls B.Blocks B.OnDisk B.has_read B.has_written B.lasts B.writes O.Opener)
+        disk first blocks.items) }
     ensures many { IfSome result (λ blocks. length blocks.items ≡ length bytes.items) }
 {
     let wanted = Wanted::Read(first);
@@ -145,90 +156,117 @@ fn read_into_by<R: Wait + Clock + Drop, B: Blocks, O: Opener<B>>(
     let serial = turn.serial;
     let (errand, own) = errand.with_memory(serial, wanted, bytes);
     let answered = asker.ask(turn, errand)?;
-    let is_read = answered.has_done_all(wanted, count);
-    let (kept, read) = answered.with_memory(serial, Wanted::Flush, own);
+    let is_read = answered.has_done_all(disk, wanted, count);
+    let (kept, read) = answered.with_memory(serial, Wanted::Flush(0), own);
     asker.keep(kept);
     if is_read { Some(read) } else { None }
 }
 
-// Writes a run, by the thread of the device.
-fn write_by<R: Wait + Clock + Drop, B: Blocks, O: Opener<B>>(
+// Writes a run of this file, by the thread of its device: how many of its writes have ended then, where it was done.
+fn write_by<R: Wait + Clock + Drop, B: FileDevice, O: Opener<B>>(
     asker: &mut Asker<R, Errand<B, O>>,
     writes: &mut u64,
+    disk: Node,
     first: u32,
     bytes: &[u8],
-) -> bool
-    ensures answered { IsTrue result → HasWritten B.claims B.contents first bytes.now }
+) -> Option<u64>
+    ensures answered { IfSome result (λ ended. HasWritten (calls B.Blocks B.OnDisk B.has_read B.has_written B.lasts B.writes O.Opener)
+        disk first bytes.now ended) }
     ensures rises { writes.old ≤ writes.new }
 {
-    let Some((turn, errand)) = take_by(asker, writes) else {
-        return false;
-    };
+    let (turn, errand) = take_by(asker, writes)?;
     let (errand, has_room) = errand.with_bytes(turn.serial, first, bytes);
     if !has_room {
         asker.keep(errand);
-        return false;
+        return None;
     }
     asker.watch().writes_bytes(bytes.len());
-    let Some(answered) = asker.ask(turn, errand) else {
-        return false;
-    };
-    let is_written = answered.has_written(first);
+    let answered = asker.ask(turn, errand)?;
+    let ended = answered.has_written(disk, first);
     asker.keep(answered);
-    is_written
+    ended
 }
 
-// Has the thread of the device do what takes no bytes, by this right to ask and this errand: whether that was done.
-fn done_by<R: Wait + Clock + Drop, B: Blocks, O: Opener<B>>(
+// Takes how many writes the device has told as ended: whether it has, and one more at least than before.
+fn one_more(told: Option<u64>, ended: &mut u64) -> bool
+    ensures told { IsTrue result → told ≡ Some ended.new }
+    ensures more { IsTrue result → min (ended.old + 1) last_count ≤ ended.new }
+    ensures rises { ended.old ≤ ended.new }
+{
+    match told {
+        Some(count) if count >= ended.saturating_add(1) => {
+            *ended = count;
+            true
+        }
+        _ => false,
+    }
+}
+
+// Has the thread of the device of this file do what takes no bytes, by this right to ask and this errand: whether that was done.
+fn done_by<R: Wait + Clock + Drop, B: FileDevice, O: Opener<B>>(
     asker: &mut Asker<R, Errand<B, O>>,
     turn: Turn,
     errand: Errand<B, O>,
+    disk: Node,
     wanted: Wanted,
 ) -> bool
-    ensures { IsTrue result → (bytes : List ℕ) × HasAnswered B.claims B.contents B.may_hold O.opened wanted bytes }
+    ensures { IsTrue result → (writes : ℕ) × (bytes : List ℕ) ×
+        HasAnswered (calls B.Blocks B.OnDisk B.has_read B.has_written B.lasts B.writes O.Opener) disk writes wanted bytes }
 {
     let errand = errand.with_room(turn.serial, wanted, 0);
     let Some(answered) = asker.ask(turn, errand) else {
         return false;
     };
-    let is_done = answered.has_done(wanted);
+    let is_done = answered.has_done(disk, wanted);
     asker.keep(answered);
     is_done
 }
 
-// Has the thread of the device flush it, and tells the watch that a flush has come back.
-fn flush_by<R: Wait + Clock + Drop, B: Blocks, O: Opener<B>>(
+// Has the thread of the device of this file flush it, so many of whose writes have ended, and tells the watch that a flush has come back.
+fn flush_by<R: Wait + Clock + Drop, B: FileDevice, O: Opener<B>>(
     asker: &mut Asker<R, Errand<B, O>>,
     writes: &mut u64,
+    disk: Node,
+    ended: u64,
 ) -> bool
-    ensures answered { IsTrue result → HasFlushed B.claims B.contents B.may_hold }
+    ensures answered { IsTrue result → HasFlushed (calls B.Blocks B.OnDisk B.has_read B.has_written B.lasts B.writes O.Opener)
+        disk ended }
     ensures rises { writes.old ≤ writes.new }
 {
     let Some((turn, errand)) = take_by(asker, writes) else {
         return false;
     };
     let written = asker.watch().written();
-    let is_flushed = done_by(asker, turn, errand, Wanted::Flush);
+    let is_flushed = done_by(asker, turn, errand, disk, Wanted::Flush(ended));
     if is_flushed {
         asker.watch().flush_came_back(true, written);
     }
     is_flushed
 }
 
-impl<R: Wait + Clock + Drop, B: Blocks, O: Opener<B>> Deadlined<R, B, O> {
+impl<R: Wait + Clock + Drop, B: FileDevice, O: Opener<B>> Deadlined<R, B, O> {
     // Whether the device was opened anew.
     pub(crate) fn is_opened_anew(&self) -> bool
-        ensures { IsTrue result → HasOpened O.opened }
+        ensures { IsTrue result → HasOpened (calls B.Blocks B.OnDisk B.has_read B.has_written B.lasts B.writes O.Opener)
+            self.now.node self.now.ended }
     {
         let mut asker = self.asker.lock(&self.rt);
         match asker.take() {
-            Some((turn, errand)) => done_by(&mut asker, turn, errand, Wanted::Open),
+            Some((turn, errand)) => {
+                done_by(
+                    &mut asker,
+                    turn,
+                    errand,
+                    self.node,
+                    Wanted::Open(self.ended),
+                )
+            }
             None => false,
         }
     }
 }
 
-impl<R: Wait + Clock + Drop, B: Blocks, O: Opener<B>> OnDisk for Deadlined<R, B, O> {
+impl<R: Wait + Clock + Drop, B: FileDevice, O: Opener<B>> OnDisk for Deadlined<R, B, O> {
     ghost disk = { λ d. d.node };
 }
 
@@ -244,7 +282,7 @@ fn ended(is_done: bool, failed: &mut u64) -> Result<(), DeviceFailed>
     Err(DeviceFailed)
 }
 
-impl<R: Wait + Clock + Drop, B: Blocks, O: Opener<B>> Blocks for Deadlined<R, B, O> {
+impl<R: Wait + Clock + Drop, B: FileDevice, O: Opener<B>> Blocks for Deadlined<R, B, O> {
     ghost claims = { false };
 
     ghost claims_moments = { false };
@@ -288,13 +326,16 @@ impl<R: Wait + Clock + Drop, B: Blocks, O: Opener<B>> Blocks for Deadlined<R, B,
     fn read_run(&mut self, first: u32, bytes: &mut [u8]) -> Result<(), DeviceFailed>
         requires { IsRun self.old.count first (length bytes.old) }
         ensures size { self.new.count ≡ self.old.count }
-        ensures answered { OnOk result (HasRead B.claims B.contents first bytes.new) }
+        ensures answered { OnOk result (HasRead (calls B.Blocks B.OnDisk B.has_read B.has_written B.lasts B.writes O.Opener)
+            self.old.node first bytes.new) }
         ensures counted { CountsRead self.old.failed_reads self.old.failed_writes self.new.failed_reads self.new.failed_writes
             result }
         ensures rises { self.old.writes ≤ self.new.writes }
-        ensures opened { (self.new.opened ≡ self.old.opened) × (self.new.node ≡ self.old.node) }
+        ensures opened { (self.new.opened ≡ self.old.opened) × (self.new.node ≡ self.old.node) × (self.new.ended ≡ self.old.ended) }
     {
-        let is_read = read_by(self.asker.get_mut(), &mut self.writes, first, bytes);
+        let disk = self.node;
+        let asker = self.asker.get_mut();
+        let is_read = read_by(asker, &mut self.writes, disk, first, bytes);
         ended(is_read, &mut self.failed_reads)
     }
 
@@ -304,11 +345,12 @@ impl<R: Wait + Clock + Drop, B: Blocks, O: Opener<B>> Blocks for Deadlined<R, B,
         ensures size { self.new.count ≡ self.old.count }
         ensures many { IfOk result (λ blocks. length blocks.items ≡ length memory.bytes.items) }
         ensures answered { IfOk result (λ blocks.
-            WereGiven B.claims B.contents self.old.node first self.new.writes blocks.items) }
+            WereGiven (calls B.Blocks B.OnDisk B.has_read B.has_written B.lasts B.writes O.Opener)
+            self.old.node first self.new.writes blocks.items) }
         ensures counted { CountsRead self.old.failed_reads self.old.failed_writes self.new.failed_reads self.new.failed_writes
             result }
         ensures rises { self.old.writes ≤ self.new.writes }
-        ensures opened { (self.new.opened ≡ self.old.opened) × (self.new.node ≡ self.old.node) }
+        ensures opened { (self.new.opened ≡ self.old.opened) × (self.new.node ≡ self.old.node) × (self.new.ended ≡ self.old.ended) }
     {
         let asker = self.asker.get_mut();
         let Some((turn, errand)) = take_by(asker, &mut self.writes) else {
@@ -320,7 +362,7 @@ impl<R: Wait + Clock + Drop, B: Blocks, O: Opener<B>> Blocks for Deadlined<R, B,
             asker.keep(errand);
             return Ok(memory.bytes);
         }
-        match read_into_by(asker, turn, errand, first, memory.bytes) {
+        match read_into_by(asker, turn, errand, self.node, first, memory.bytes) {
             Some(blocks) => Ok(blocks),
             None => {
                 self.failed_reads = self.failed_reads.saturating_add(1);
@@ -332,14 +374,19 @@ impl<R: Wait + Clock + Drop, B: Blocks, O: Opener<B>> Blocks for Deadlined<R, B,
     fn write_run(&mut self, first: u32, bytes: &[u8]) -> Result<(), DeviceFailed>
         requires { IsRun self.old.count first (length bytes.now) }
         ensures size { self.new.count ≡ self.old.count }
-        ensures answered { OnOk result (HasWritten B.claims B.contents first bytes.now) }
+        ensures answered { OnOk result (HasWritten (calls B.Blocks B.OnDisk B.has_read B.has_written B.lasts B.writes O.Opener)
+            self.old.node first bytes.now self.new.ended) }
+        ensures ended { OnOk result (min (self.old.ended + 1) last_count ≤ self.new.ended) }
+        ensures told { self.old.ended ≤ self.new.ended }
         ensures counted { CountsWrite self.old.failed_reads self.old.failed_writes self.new.failed_reads self.new.failed_writes
             result }
         ensures written { min (self.old.writes + 1) last_count ≤ self.new.writes }
         ensures opened { (self.new.opened ≡ self.old.opened) × (self.new.node ≡ self.old.node) }
     {
+        let disk = self.node;
         let asker = self.asker.get_mut();
-        let is_written = write_by(asker, &mut self.writes, first, bytes);
+        let told = write_by(asker, &mut self.writes, disk, first, bytes);
+        let is_written = one_more(told, &mut self.ended);
         self.writes = self.writes.saturating_add(1);
         asker.watch().wrote(self.writes);
         ended(is_written, &mut self.failed_writes)
@@ -347,13 +394,16 @@ impl<R: Wait + Clock + Drop, B: Blocks, O: Opener<B>> Blocks for Deadlined<R, B,
 
     fn flush(&mut self) -> Result<(), DeviceFailed>
         ensures size { self.new.count ≡ self.old.count }
-        ensures answered { OnOk result (HasFlushed B.claims B.contents B.may_hold) }
+        ensures answered { OnOk result (HasFlushed (calls B.Blocks B.OnDisk B.has_read B.has_written B.lasts B.writes O.Opener)
+            self.old.node self.old.ended) }
         ensures counted { CountsWrite self.old.failed_reads self.old.failed_writes self.new.failed_reads self.new.failed_writes
             result }
         ensures rises { self.old.writes ≤ self.new.writes }
-        ensures opened { (self.new.opened ≡ self.old.opened) × (self.new.node ≡ self.old.node) }
+        ensures opened { (self.new.opened ≡ self.old.opened) × (self.new.node ≡ self.old.node) × (self.new.ended ≡ self.old.ended) }
     {
-        let is_flushed = flush_by(self.asker.get_mut(), &mut self.writes);
+        let disk = self.node;
+        let asker = self.asker.get_mut();
+        let is_flushed = flush_by(asker, &mut self.writes, disk, self.ended);
         ended(is_flushed, &mut self.failed_writes)
     }
 }

@@ -1,11 +1,13 @@
 //! What the thread of a device is asked, and what it does.
-ghost use Rattle.std.specs.Prelude.{◌≡◌, true, length, IsTrue};
+ghost use Rattle.std.specs.Prelude.{◌≡◌, true, length, IfSome, IsTrue};
 ghost use Rattle.block_file.specs.Cut.{IsRun};
-ghost use Rattle.deadline.specs.Answers.{HasAnswered, HasFlushed, HasOpened, HasRead, HasWritten, given_to};
+ghost use Rattle.deadline.specs.Answers.{calls, HasAnswered, HasFlushed, HasOpened, HasRead, HasWritten, given_to};
 
 use crate::handing::Asked;
 use crate::hatch::Runner;
 use block_file::{BLOCK_LENGTH, Blocks, Opener};
+use disk_files::FileDevice;
+use disk_preparer::Node;
 use event_log::Call;
 use std::alloc::{AllocError, Global};
 use std::marker::{Model, PhantomData};
@@ -13,48 +15,72 @@ use std::marker::{Model, PhantomData};
 /// The most bytes of a run: 2048 blocks.
 const LONGEST: usize = 2048 * BLOCK_LENGTH;
 
-/// A call of a device, from this block on where it has a run; or that it is opened anew.
+/// A call of a device, from this block on where it has a run, and behind so many of its writes where it makes them last; or that it is
+/// opened anew, behind so many.
 #[derive(Clone, Copy, PartialEq, Eq)]
 pub(crate) enum Wanted {
     Read(u32),
     Write(u32),
-    Flush,
-    Open,
+    Flush(u64),
+    Open(u64),
 }
 
-/// What the thread of a device is asked under this number, with the bytes of the run; and whether that was done, and went well.
+/// What the thread of a device is asked under this number, with the bytes of the run; and whether that was done, and went well, of which
+/// file, and how many of the device's writes had ended behind it.
 #[derive(Drop)]
-pub(crate) struct Errand<B: Blocks, O: Opener<B>> {
+pub(crate) struct Errand<B: FileDevice, O: Opener<B>> {
     serial: u64,
     wanted: Wanted,
     bytes: Vec<u8>,
+    disk: Node,
+    writes: u64,
     is_done: bool,
     of: PhantomData<(B, O)>,
 }
 
-impl<B: Blocks, O: Opener<B>> Model for Errand<B, O> {
+impl<B: FileDevice, O: Opener<B>> Model for Errand<B, O> {
     ghost use Rattle.std.specs.Prelude.{◌≡◌, true};
-    ghost use Rattle.deadline.specs.Answers.{ErrandValue, HasAnswered};
+    ghost use Rattle.deadline.specs.Answers.{ErrandValue, HasAnswered, calls};
 
     ghost Value = { ErrandValue };
 
-    ghost view = { λ e. record { serial = e.serial; wanted = e.wanted; bytes = e.bytes.items; is_done = e.is_done } };
+    ghost view = { λ e. record {
+      serial = e.serial;
+      wanted = e.wanted;
+      bytes = e.bytes.items;
+      disk = e.disk;
+      writes = e.writes;
+      is_done = e.is_done;
+    } };
 
     ghost invariant = { λ e. e.is_done ≡ true
-        → HasAnswered B.claims B.contents B.may_hold O.opened e.wanted e.bytes.items };
+        → HasAnswered (calls B.Blocks B.OnDisk B.has_read B.has_written B.lasts B.writes O.Opener)
+        e.disk e.writes e.wanted e.bytes.items };
 }
 
-impl<B: Blocks, O: Opener<B>> Errand<B, O> {
+impl<B: FileDevice, O: Opener<B>> Errand<B, O> {
     /// With room for the longest run.
     pub(crate) fn new(alloc: Global) -> Result<Errand<B, O>, AllocError> {
         let bytes = Vec::with_capacity(alloc, LONGEST)?;
-        Ok(Errand {
-            serial: 0,
-            wanted: Wanted::Flush,
+        Ok(Errand::asked(0, Wanted::Flush(0), bytes))
+    }
+
+    // One that is not done yet.
+    fn asked(serial: u64, wanted: Wanted, bytes: Vec<u8>) -> Errand<B, O>
+        ensures { (result.serial ≡ serial) × (result.wanted ≡ wanted) × (result.bytes ≡ bytes.items) }
+    {
+        Errand {
+            serial,
+            wanted,
             bytes,
+            disk: Node {
+                device: 0,
+                number: 0,
+            },
+            writes: 0,
             is_done: false,
             of: PhantomData,
-        })
+        }
     }
 
     /// Asks for this, with room for so many bytes. The room may be wanting.
@@ -63,13 +89,7 @@ impl<B: Blocks, O: Opener<B>> Errand<B, O> {
     {
         let mut bytes = self.bytes;
         let _ = bytes.resize(length, 0);
-        Errand {
-            serial,
-            wanted,
-            bytes,
-            is_done: false,
-            of: PhantomData,
-        }
+        Errand::asked(serial, wanted, bytes)
     }
 
     /// Asks for a write from this block on of these bytes; whether there is room for them.
@@ -80,14 +100,7 @@ impl<B: Blocks, O: Opener<B>> Errand<B, O> {
         let mut bytes = self.bytes;
         bytes.clear();
         let has_room = bytes.extend_from_slice(part).is_ok();
-        let errand = Errand {
-            serial,
-            wanted: Wanted::Write(first),
-            bytes,
-            is_done: false,
-            of: PhantomData,
-        };
-        (errand, has_room)
+        (Errand::asked(serial, Wanted::Write(first), bytes), has_room)
     }
 
     /// Asks for this, with these bytes in place of its own, which it gives.
@@ -100,48 +113,46 @@ impl<B: Blocks, O: Opener<B>> Errand<B, O> {
         ensures serial { result.0.serial ≡ serial }
         ensures own { result.1.items ≡ self.bytes }
     {
-        let errand = Errand {
-            serial,
-            wanted,
-            bytes: given,
-            is_done: false,
-            of: PhantomData,
-        };
-        (errand, self.bytes)
+        (Errand::asked(serial, wanted, given), self.bytes)
     }
 
-    /// Whether this was wanted, and was done.
-    pub(crate) fn has_done(&self, wanted: Wanted) -> bool
+    /// Whether this was wanted of this file, and was done.
+    pub(crate) fn has_done(&self, disk: Node, wanted: Wanted) -> bool
         ensures wanted { IsTrue result → self.now.wanted ≡ wanted }
-        ensures answered { IsTrue result
-            → HasAnswered B.claims B.contents B.may_hold O.opened wanted self.now.bytes }
+        ensures answered { IsTrue result → HasAnswered (calls B.Blocks B.OnDisk B.has_read B.has_written B.lasts B.writes O.Opener)
+            disk self.now.writes wanted self.now.bytes }
     {
-        self.is_done && self.wanted == wanted
+        self.is_done && self.wanted == wanted && self.disk.is(disk)
     }
 
-    /// Whether the bytes that it was given were written, from this block on.
+    /// Whether the bytes that it was given were written to this file, from this block on: how many writes have ended then.
     #[tactic(auto, using(crate::proofs::Given::given_written))]
-    pub(crate) fn has_written(&self, first: u32) -> bool
-        ensures { IsTrue result
-            → HasWritten B.claims B.contents first (given_to self.now.wanted self.now.bytes) }
+    pub(crate) fn has_written(&self, disk: Node, first: u32) -> Option<u64>
+        ensures { IfSome result (λ writes. HasWritten (calls B.Blocks B.OnDisk B.has_read B.has_written B.lasts B.writes O.Opener)
+            disk first (given_to self.now.wanted self.now.bytes) writes) }
     {
-        self.has_done(Wanted::Write(first))
+        if self.has_done(disk, Wanted::Write(first)) {
+            Some(self.writes)
+        } else {
+            None
+        }
     }
 
-    /// Whether this was wanted, and was done with so many bytes.
-    pub(crate) fn has_done_all(&self, wanted: Wanted, count: usize) -> bool
-        ensures answered { IsTrue result
-            → HasAnswered B.claims B.contents B.may_hold O.opened wanted self.now.bytes }
+    /// Whether this was wanted of this file, and was done with so many bytes.
+    pub(crate) fn has_done_all(&self, disk: Node, wanted: Wanted, count: usize) -> bool
+        ensures answered { IsTrue result → HasAnswered (calls B.Blocks B.OnDisk B.has_read B.has_written B.lasts B.writes O.Opener)
+            disk self.now.writes wanted self.now.bytes }
         ensures all { IsTrue result → length self.now.bytes ≡ count }
     {
-        self.has_done(wanted) && self.bytes.len() == count
+        self.has_done(disk, wanted) && self.bytes.len() == count
     }
 
-    /// Gives the bytes, where this was wanted, and was done with so many.
-    pub(crate) fn gives(&self, wanted: Wanted, bytes: &mut [u8]) -> bool
-        ensures { IsTrue result → HasAnswered B.claims B.contents B.may_hold O.opened wanted bytes.new }
+    /// Gives the bytes, where a read of this file from this block on was wanted, and was done with so many.
+    pub(crate) fn gives(&self, disk: Node, first: u32, bytes: &mut [u8]) -> bool
+        ensures { IsTrue result → HasRead (calls B.Blocks B.OnDisk B.has_read B.has_written B.lasts B.writes O.Opener)
+            disk first bytes.new }
     {
-        if !self.has_done(wanted) || self.bytes.len() != bytes.len() {
+        if !self.has_done(disk, Wanted::Read(first)) || self.bytes.len() != bytes.len() {
             return false;
         }
         bytes.copy_from_slice(self.bytes.as_slice());
@@ -149,7 +160,7 @@ impl<B: Blocks, O: Opener<B>> Errand<B, O> {
     }
 }
 
-impl<B: Blocks, O: Opener<B>> Asked for Errand<B, O> {
+impl<B: FileDevice, O: Opener<B>> Asked for Errand<B, O> {
     ghost serial = { λ e. e.serial };
 
     ghost given = { λ e. given_to e.wanted e.bytes };
@@ -162,15 +173,15 @@ impl<B: Blocks, O: Opener<B>> Asked for Errand<B, O> {
         match self.wanted {
             Wanted::Read(_) => Call::Read,
             Wanted::Write(_) => Call::Write,
-            Wanted::Flush => Call::Flush,
-            Wanted::Open => Call::Open,
+            Wanted::Flush(_) => Call::Flush,
+            Wanted::Open(_) => Call::Open,
         }
     }
 }
 
 /// A device with its opener, as its thread has them.
 #[derive(Drop)]
-pub(crate) struct DeviceRunner<B: Blocks, O: Opener<B>> {
+pub(crate) struct DeviceRunner<B: FileDevice, O: Opener<B>> {
     pub(crate) blocks: B,
     pub(crate) opener: O,
 }
@@ -186,59 +197,72 @@ fn is_run(count: u32, first: u32, length: usize) -> bool
     first as usize + blocks <= count as usize
 }
 
-impl<B: Blocks, O: Opener<B>> DeviceRunner<B, O> {
+impl<B: FileDevice, O: Opener<B>> DeviceRunner<B, O> {
     fn read(&mut self, first: u32, bytes: &mut [u8]) -> bool
-        ensures { IsTrue result → HasRead B.claims B.contents first bytes.new }
+        ensures { IsTrue result
+            → HasRead (calls B.Blocks B.OnDisk B.has_read B.has_written B.lasts B.writes O.Opener)
+            (B.disk self.old.blocks) first bytes.new }
     {
-        is_run(self.blocks.count(), first, bytes.len())
-            && self.blocks.read_run(first, bytes).is_ok()
+        is_run(self.blocks.count(), first, bytes.len()) && self.blocks.read_of(first, bytes).is_ok()
     }
 
     fn write(&mut self, first: u32, bytes: &[u8]) -> bool
-        ensures { IsTrue result → HasWritten B.claims B.contents first bytes.now }
+        ensures { IsTrue result → HasWritten (calls B.Blocks B.OnDisk B.has_read B.has_written B.lasts B.writes O.Opener)
+            (B.disk self.old.blocks) first bytes.now (B.writes self.new.blocks) }
     {
         is_run(self.blocks.count(), first, bytes.len())
-            && self.blocks.write_run(first, bytes).is_ok()
+            && self.blocks.write_of(first, bytes).is_ok()
     }
 
-    fn flush(&mut self) -> bool
-        ensures { IsTrue result → HasFlushed B.claims B.contents B.may_hold }
+    // Where fewer writes have ended than are to last, nothing is flushed.
+    fn flush(&mut self, writes: u64) -> bool
+        ensures { IsTrue result
+            → HasFlushed (calls B.Blocks B.OnDisk B.has_read B.has_written B.lasts B.writes O.Opener) (B.disk self.old.blocks) writes }
     {
-        match self.blocks.flush() {
+        if self.blocks.ended_writes() < writes {
+            return false;
+        }
+        match self.blocks.flush_of() {
             Ok(()) => true,
             Err(_) => false,
         }
     }
 
-    fn open(&mut self) -> bool
-        ensures { IsTrue result → HasOpened O.opened }
+    fn open(&mut self, writes: u64) -> bool
+        ensures { IsTrue result
+            → HasOpened (calls B.Blocks B.OnDisk B.has_read B.has_written B.lasts B.writes O.Opener) (B.disk self.old.blocks) writes }
     {
-        self.opener.open(&mut self.blocks).is_ok()
+        writes <= self.blocks.ended_writes() && self.opener.open(&mut self.blocks).is_ok()
     }
 
     // Does what is wanted: whether it went well.
     fn does(&mut self, wanted: Wanted, bytes: &mut Vec<u8>) -> bool
-        ensures answered { IsTrue result → HasAnswered B.claims B.contents B.may_hold O.opened wanted bytes.new.items }
+        ensures answered { IsTrue result → HasAnswered (calls B.Blocks B.OnDisk B.has_read B.has_written B.lasts B.writes O.Opener)
+            (B.disk self.old.blocks) (B.writes self.new.blocks) wanted bytes.new.items }
         ensures given { given_to wanted bytes.new.items ≡ given_to wanted bytes.old.items }
     {
         match wanted {
             Wanted::Read(first) => self.read(first, bytes.as_mut_slice()),
             Wanted::Write(first) => self.write(first, bytes.as_slice()),
-            Wanted::Flush => self.flush(),
-            Wanted::Open => self.open(),
+            Wanted::Flush(writes) => self.flush(writes),
+            Wanted::Open(writes) => self.open(writes),
         }
     }
 }
 
-impl<B: Blocks, O: Opener<B>> Runner<Errand<B, O>> for DeviceRunner<B, O> {
+impl<B: FileDevice, O: Opener<B>> Runner<Errand<B, O>> for DeviceRunner<B, O> {
     fn run(&mut self, errand: Errand<B, O>) -> Errand<B, O> {
         let (serial, wanted) = (errand.serial, errand.wanted);
+        let disk = self.blocks.disk();
         let mut bytes = errand.bytes;
         let is_done = self.does(wanted, &mut bytes);
+        let writes = self.blocks.ended_writes();
         Errand {
             serial,
             wanted,
             bytes,
+            disk,
+            writes,
             is_done,
             of: PhantomData,
         }

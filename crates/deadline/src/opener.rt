@@ -2,10 +2,11 @@
 ghost use Rattle.std.specs.Prelude.{◌≡◌, ◌+◌, min, false};
 ghost use Rattle.std.proofs.Common.{arith};
 ghost use Rattle.block_file.specs.Failures.{last_count};
-ghost use Rattle.deadline.specs.Answers.{HasOpened};
+ghost use Rattle.deadline.specs.Answers.{calls, HasOpened};
 
 use crate::blocks::Deadlined;
-use block_file::{Blocks, DeviceFailed, Opener};
+use block_file::{DeviceFailed, Opener};
+use disk_files::FileDevice;
 use std::sync::Wait;
 use std::time::Clock;
 
@@ -22,12 +23,12 @@ impl DeadlinedOpener {
     }
 }
 
-impl<R: Wait + Clock + Drop, B: Blocks, O: Opener<B>> Opener<Deadlined<R, B, O>>
+impl<R: Wait + Clock + Drop, B: FileDevice, O: Opener<B>> Opener<Deadlined<R, B, O>>
     for DeadlinedOpener {
     ghost claims = { false };
 
-    ghost opened = { λ old new. (new.opened ≡ min (old.opened + 1) last_count) × (new.node ≡ old.node)
-        × HasOpened O.opened };
+    ghost opened = { λ old new. (new.opened ≡ min (old.opened + 1) last_count) × (new.node ≡ old.node) × (new.ended ≡ old.ended)
+        × HasOpened (calls B.Blocks B.OnDisk B.has_read B.has_written B.lasts B.writes O.Opener) old.node old.ended };
 
     ghost opens_failed = { λ o. min o.failed last_count };
 

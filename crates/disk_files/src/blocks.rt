@@ -47,7 +47,7 @@ pub struct FileBlocks<F: BackingFile> {
     count: u32,
     tally: Tally,
     // How many writes have ended.
-    writes: Writes<F>,
+    pub(crate) writes: Writes<F>,
     // What its preparer flushes, where it has one.
     flushes: Option<Arc<Flushes<F>, Global>>,
     // What tells of calls that failed.

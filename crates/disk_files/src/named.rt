@@ -9,6 +9,7 @@ ghost use Rattle.disk_files.specs.System.{has_read, has_written, lasts};
 ghost use Rattle.disk_files.specs.Tally.{failures_with, writes_failed_with};
 
 use crate::FileBlocks;
+use crate::file_device::FileDevice;
 use crate::system::{SystemFile, number_of};
 use block_file::{Blocks, DeviceFailed};
 use disk_preparer::{Node, OnDisk};
@@ -192,5 +193,35 @@ impl<R: Files<File = File> + Drop> Blocks for NamedBlocks<R> {
             Ok(()) if !self.is_named() => self.refuse(),
             end => end,
         }
+    }
+}
+
+impl<R: Files<File = File> + Drop> FileDevice for NamedBlocks<R> {
+    ghost has_read = { has_read };
+
+    ghost has_written = { has_written };
+
+    ghost lasts = { lasts };
+
+    ghost writes = { λ d. d.blocks.writes.count };
+
+    fn disk(&self) -> Node {
+        self.node()
+    }
+
+    fn ended_writes(&self) -> u64 {
+        self.blocks.ended_writes()
+    }
+
+    fn read_of(&mut self, first: u32, bytes: &mut [u8]) -> Result<(), DeviceFailed> {
+        self.read_run(first, bytes)
+    }
+
+    fn write_of(&mut self, first: u32, bytes: &[u8]) -> Result<(), DeviceFailed> {
+        self.write_run(first, bytes)
+    }
+
+    fn flush_of(&mut self) -> Result<(), DeviceFailed> {
+        self.flush()
     }
 }

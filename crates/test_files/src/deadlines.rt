@@ -1,17 +1,19 @@
 //! Calls that have a deadline, over a disk that counts what it is asked, and stands still when it is told to.
 ghost use Rattle.std.specs.Prelude.{◌≡◌, [], true, false};
 ghost use Rattle.std.specs.Arc.{arc_value};
+ghost use Rattle.block_file.specs.Failures.{last_count};
 
 use crate::ends::{fail, must};
 use crate::runs::{reads, writes};
 use block_file::{Blocks, DeviceFailed, KeepOpener, MemBlocks};
 use deadline::{Deadlined, DeadlinedPreparer, Watch};
+use disk_files::FileDevice;
 use disk_preparer::{BlockMemory, Node, OnDisk, Preparer};
 use event_log::{Log, Part};
 use std::alloc::Global;
 use std::process::Abort;
 use std::sync::Arc;
-use std::sync::atomic::{AtomicBool, AtomicU64, Ordering};
+use std::sync::atomic::{AtomicU64, Ordering};
 use std::thread;
 use std::time::{Clock, Duration};
 
@@ -19,7 +21,10 @@ use std::time::{Clock, Duration};
 const PATIENCE: u64 = 1;
 
 /// So often one looks for what another thread does, a millisecond each.
-const TRIES: u32 = 10_000;
+const TRIES: u64 = 10_000;
+
+/// So long a call takes that comes too late, and would not where twice as many seconds were given.
+const TOO_LATE: u64 = 1_500;
 
 /// A disk in no file.
 const NO_FILE: Node = Node {
@@ -27,9 +32,9 @@ const NO_FILE: Node = Node {
     number: 0,
 };
 
-/// What a disk was asked, and whether it stands still.
+/// What a disk was asked, and for how long it stands still.
 struct Seen {
-    stands: AtomicBool,
+    stands: AtomicU64,
     reads: AtomicU64,
     writes: AtomicU64,
     flushes: AtomicU64,
@@ -50,17 +55,17 @@ impl Seen {
     // Counts a call, which comes back when the disk does not stand still.
     fn call<R: Clock>(&self, rt: &R, count: &AtomicU64) {
         count.fetch_add(1, Ordering::AcqRel);
-        for _ in 0..TRIES {
-            if !self.stands.load(Ordering::Acquire) {
+        for tried in 0..TRIES {
+            if tried >= self.stands.load(Ordering::Acquire) {
                 break;
             }
             thread::sleep(rt, Duration::from_millis(1));
         }
     }
 
-    // From now on the disk stands still, or goes on.
-    fn stand(&self, stands: bool) {
-        self.stands.store(stands, Ordering::Release);
+    // From now on the disk stands still for so many milliseconds a call.
+    fn stand(&self, time: u64) {
+        self.stands.store(time, Ordering::Release);
     }
 
     // Reads, writes and flushes so far.
@@ -142,6 +147,37 @@ impl<B: Blocks, R: Clock + Drop> Blocks for Seeing<B, R> {
     }
 }
 
+// It lies in no file, and says nothing of one: a count at its end.
+impl<B: Blocks, R: Clock + Drop> FileDevice for Seeing<B, R> {
+    ghost has_read = { λ disk offset bytes. Unit {0} };
+
+    ghost has_written = { λ disk offset bytes. Unit {0} };
+
+    ghost lasts = { λ disk writes. Unit {0} };
+
+    ghost writes = { λ d. last_count };
+
+    fn disk(&self) -> Node {
+        NO_FILE
+    }
+
+    fn ended_writes(&self) -> u64 {
+        u64::MAX
+    }
+
+    fn read_of(&mut self, first: u32, bytes: &mut [u8]) -> Result<(), DeviceFailed> {
+        self.read_run(first, bytes)
+    }
+
+    fn write_of(&mut self, first: u32, bytes: &[u8]) -> Result<(), DeviceFailed> {
+        self.write_run(first, bytes)
+    }
+
+    fn flush_of(&mut self) -> Result<(), DeviceFailed> {
+        self.flush()
+    }
+}
+
 /// Its preparer, whose reads fail.
 #[derive(Drop)]
 struct SeeingPreparer<R: Clock + Drop> {
@@ -191,7 +227,7 @@ impl<R: Clock + Drop> Preparer for SeeingPreparer<R> {
 // What such a disk has seen: nothing yet.
 fn nothing(rt: &impl Abort, alloc: Global) -> Arc<Seen, Global> {
     let seen = Seen {
-        stands: AtomicBool::new(false),
+        stands: AtomicU64::new(0),
         reads: AtomicU64::new(0),
         writes: AtomicU64::new(0),
         flushes: AtomicU64::new(0),
@@ -320,7 +356,7 @@ fn a_call_that_hangs_stops_all_until_it_is_back(rt: HostRuntime) {
         &seen.counts(),
     );
     // a flush beside the device hangs, and then a write of the device
-    seen.stand(true);
+    seen.stand(TRIES);
     must(&rt, !preparer.flush(), "a flush that hangs", &seen.counts());
     must(
         &rt,
@@ -340,7 +376,7 @@ fn a_call_that_hangs_stops_all_until_it_is_back(rt: HostRuntime) {
         "none is made",
         &seen.counts(),
     );
-    seen.stand(false);
+    seen.stand(0);
     must(
         &rt,
         is_served(&rt, &mut device, 0x11),
@@ -354,7 +390,7 @@ fn a_call_that_hangs_stops_all_until_it_is_back(rt: HostRuntime) {
         "one call each",
         &seen.counts(),
     );
-    seen.stand(true);
+    seen.stand(TRIES);
     must(
         &rt,
         !writes(&mut device, 2, &[0x22]),
@@ -373,7 +409,7 @@ fn a_call_that_hangs_stops_all_until_it_is_back(rt: HostRuntime) {
         "none is made",
         &seen.counts(),
     );
-    seen.stand(false);
+    seen.stand(0);
     must(
         &rt,
         is_served(&rt, &mut device, 0x22),
@@ -384,6 +420,21 @@ fn a_call_that_hangs_stops_all_until_it_is_back(rt: HostRuntime) {
         &rt,
         writes(&mut device, 2, &[0x44]) && reads(&mut device, 2, &[0x44]),
         "then",
+        &seen.counts(),
+    );
+    // one that comes back by itself, too late
+    seen.stand(TOO_LATE);
+    must(
+        &rt,
+        !writes(&mut device, 2, &[0x55]),
+        "a write that is late",
+        &seen.counts(),
+    );
+    seen.stand(0);
+    must(
+        &rt,
+        is_served(&rt, &mut device, 0x55),
+        "behind it",
         &seen.counts(),
     );
 }

@@ -1,11 +1,19 @@
 //! A device that may hang.
 ghost use Rattle.std.specs.Prelude.{[], false};
+ghost use Rattle.block_file.specs.Failures.{last_count};
 
 use crate::latch::Latch;
 use block_file::{Blocks, DeviceFailed};
-use disk_preparer::OnDisk;
+use disk_files::FileDevice;
+use disk_preparer::{Node, OnDisk};
 use std::alloc::Global;
 use std::sync::{Arc, Wait};
+
+/// It lies in no file.
+const NO_FILE: Node = Node {
+    device: 0,
+    number: 0,
+};
 
 /// The device of a unit, whose writes wait at a latch. Of its contents it claims nothing.
 #[derive(Drop)]
@@ -71,5 +79,36 @@ impl<B: Blocks, R: Wait + Drop> Blocks for HeldBlocks<B, R> {
 
     fn flush(&mut self) -> Result<(), DeviceFailed> {
         self.inner.flush()
+    }
+}
+
+// It lies in no file, and says nothing of one: a count at its end.
+impl<B: Blocks, R: Wait + Drop> FileDevice for HeldBlocks<B, R> {
+    ghost has_read = { λ disk offset bytes. Unit {0} };
+
+    ghost has_written = { λ disk offset bytes. Unit {0} };
+
+    ghost lasts = { λ disk writes. Unit {0} };
+
+    ghost writes = { λ d. last_count };
+
+    fn disk(&self) -> Node {
+        NO_FILE
+    }
+
+    fn ended_writes(&self) -> u64 {
+        u64::MAX
+    }
+
+    fn read_of(&mut self, first: u32, bytes: &mut [u8]) -> Result<(), DeviceFailed> {
+        self.read_run(first, bytes)
+    }
+
+    fn write_of(&mut self, first: u32, bytes: &[u8]) -> Result<(), DeviceFailed> {
+        self.write_run(first, bytes)
+    }
+
+    fn flush_of(&mut self) -> Result<(), DeviceFailed> {
+        self.flush()
     }
 }
