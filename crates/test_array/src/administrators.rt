@@ -69,6 +69,16 @@ fn got<R: Net<Listener = TcpListener, Stream = TcpStream>>(
     Ok(io::read_to_string(alloc, &stream)?)
 }
 
+// What the control socket answers to lines; the last line of an answer says how its line was obeyed.
+const ANSWERS: [(&str, &str); 6] = [
+    ("version\n", "arrayd 0.0.0\n. 0\n"),
+    ("health\n", "ok\n. 0\n"),
+    ("keys 200\n", "no unit\n. 1\n"),
+    ("acknowledge\n", "acknowledged\n. 0\n"),
+    ("\ndown 3\n", "?\n. 2\n?\n. 2\n"),
+    ("end 258\n", "no session\n. 1\n"),
+];
+
 // The line that ends session 258 ends no other one, also none whose number has the same last byte.
 fn no_other_session_is_ended<R: Abort + Net>(
     rt: &R,
@@ -76,8 +86,10 @@ fn no_other_session_is_ended<R: Abort + Net>(
     control: &str,
     sessions: usize,
 ) -> Result<(), Fail> {
-    let answer = told(rt, alloc, control, "end 258\n")?;
-    must(rt, answer.as_str() == "no session\n", "end 258", &answer);
+    for (line, wanted) in &ANSWERS {
+        let answer = told(rt, alloc, control, line)?;
+        must(rt, answer.as_str() == *wanted, line, &answer);
+    }
     let lines = told(rt, alloc, control, "sessions\n")?;
     let count = lines
         .lines()

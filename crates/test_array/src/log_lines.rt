@@ -81,6 +81,15 @@ fn events_are_spelled(rt: HostRuntime) -> Result<(), Fail> {
             Event::ConnectionsEnded(8),
             "event=connections_ended count=8",
         ),
+        (Event::LoginsRefused(8), "event=logins_refused count=8"),
+        (
+            Event::ConnectionEnded(path(), Why::PushedOut),
+            "event=connection_ended from=10.0.5.7:41022 portal=10.0.5.1:3264 tag=2 why=too_many_wait",
+        ),
+        (
+            Event::Ordered(b"end 3\r"),
+            "event=order by=control line=\"end 3\\x0d\"",
+        ),
         (
             Event::GroupsSet(1, 2, Access::Unavailable, Access::Optimized, By::Console),
             "event=groups_set unit=1 owner=2 states=3,0 by=console",

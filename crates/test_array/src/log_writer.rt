@@ -1,6 +1,6 @@
 //! The thread that writes the lines of a log: how many lines were lost is told behind the next that are written.
 use crate::ends::must;
-use event_log::{Event, Log, Page, Path, Why, close, start};
+use event_log::{Cause, Event, Initiator, Log, Page, Path, Why, close, start};
 use std::alloc::Global;
 use std::fs::{self, File, OpenFile};
 use std::io;
@@ -144,7 +144,8 @@ fn path() -> Path {
     }
 }
 
-// Tells of so many connections that end without a login, in less than a minute: what is written once the log ends.
+// Tells of so many connections that end without a login, and of as many logins that are refused, in less than a minute: what is written
+// once the log ends.
 fn written_of<R: Files<File = File> + Wait + Clock + Abort>(
     rt: &R,
     alloc: Global,
@@ -153,6 +154,11 @@ fn written_of<R: Files<File = File> + Wait + Clock + Abort>(
 ) -> String {
     for _ in 0..ends {
         log.tell(rt, &Event::ConnectionEnded(path(), Why::Closed));
+        let who = Initiator { name: b"", isid: 0 };
+        log.tell(
+            rt,
+            &Event::LoginRefused(who, path(), 0x0203, Cause::Request),
+        );
     }
     log.tell(rt, &Event::Stopping);
     close(rt, log);
@@ -175,7 +181,9 @@ fn ends_without_a_login_take_few_lines(rt: HostRuntime) {
     let text = written_of(&rt, alloc, &log, 1000);
     let alone = count_of(&text, " tag=1 why=connection_closed");
     let together = count_of(&text, " event=connections_ended count=968");
+    let refused = count_of(&text, " words=\"Not found\"");
+    let summed = count_of(&text, " event=logins_refused count=968");
     let all = text.lines().count();
-    let seen = (alone, together, all);
-    must(&rt, seen == (32, 1, 34), "lines", &seen);
+    let seen = (alone, together, refused, summed, all);
+    must(&rt, seen == (32, 1, 32, 1, 67), "lines", &seen);
 }
