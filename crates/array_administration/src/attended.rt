@@ -39,7 +39,11 @@ fn has_ended(meters: &Meters) -> bool {
 impl<'a, I: Drop> Attended<'a, I> {
     /// The reader of standard input, of the array to whose log this is a hand.
     pub fn new(inner: I, log: &'a Log) -> Attended<'a, I> {
-        Attended { inner, log, held: 0 }
+        Attended {
+            inner,
+            log,
+            held: 0,
+        }
     }
 
     // Whether nothing is to be read any more.
