@@ -46,8 +46,8 @@ impl<'a, I: Drop> Attended<'a, I> {
         }
     }
 
-    // Whether nothing is to be read any more.
-    fn is_over(&self) -> bool {
+    // Whether the array was ended.
+    fn was_ended(&self) -> bool {
         match self.log.meters() {
             Some(meters) => has_ended(meters),
             None => false,
@@ -55,9 +55,26 @@ impl<'a, I: Drop> Attended<'a, I> {
     }
 }
 
+impl<I: BufRead + Drop> Attended<'_, I> {
+    // Whether nothing is to be read any more. Bytes that came with others are there, so nothing is waited for then.
+    fn is_over(&mut self) -> bool {
+        if self.held > 0 {
+            return false;
+        }
+        if self.was_ended() {
+            return true;
+        }
+        match self.inner.fill_buf() {
+            Ok(bytes) => self.held = bytes.len(),
+            Err(_) => return false,
+        }
+        self.held == 0
+    }
+}
+
 impl<I: Read + Drop> Read for Attended<'_, I> {
     fn read(&mut self, buf: &mut [u8]) -> io::Result<usize> {
-        if self.is_over() {
+        if self.was_ended() {
             return Ok(0);
         }
         self.inner.read(buf)
@@ -65,14 +82,11 @@ impl<I: Read + Drop> Read for Attended<'_, I> {
 }
 
 impl<I: BufRead + Drop> BufRead for Attended<'_, I> {
-    // Bytes that came with others are there, so they are not waited for.
     fn fill_buf(&mut self) -> io::Result<&[u8]> {
-        if self.held == 0 && self.is_over() {
+        if self.is_over() {
             return Ok(&[]);
         }
-        let bytes = self.inner.fill_buf()?;
-        self.held = bytes.len();
-        Ok(bytes)
+        self.inner.fill_buf()
     }
 
     fn consume(&mut self, amount: usize) {
