@@ -8,7 +8,7 @@ use crate::doors::Doors;
 use crate::no_room::NoRoom;
 use crate::scene::{Portals, Scene};
 use crate::stage::Stage;
-use crate::units::{Faults, in_memory, opened};
+use crate::units::{Faults, NO_FAULTS, in_memory, opened};
 use array_units::Units;
 use block_file::{Blocks, FusedBlocks, FusedOpener, KeepOpener, Opener};
 use event_log::Log;
@@ -44,25 +44,10 @@ pub struct Script<'a> {
 }
 
 impl<'a> Script<'a> {
-    /// That of a part of a table: its name and, behind semicolons, what is not as usual; and then the lines.
+    /// That of a part of a table: its name, and behind it the lines.
     pub fn of(part: &'a str) -> Script<'a> {
-        let (head, text) = part.trim_start().split_once('\n').unwrap_or((part, ""));
-        let (name, words) = head.split_once("; ").unwrap_or((head, ""));
-        let mut script = Script::new(name, text);
-        script.take(words);
-        script
-    }
-
-    // Takes what is not as usual. A word that says nothing leaves no lines, which a stage refuses.
-    fn take(&mut self, words: &str) {
-        match words {
-            "" => {}
-            "one unit" => self.is_alone = true,
-            "no open" => self.opens = 0,
-            "no thread for two" => self.refused = 2,
-            "accepts that fail" => self.is_hasty = true,
-            _ => self.text = "",
-        }
+        let (name, text) = part.trim_start().split_once('\n').unwrap_or((part, ""));
+        Script::new(name, text)
     }
 
     /// At two ports of the loopback that are free, and of two units.
@@ -91,12 +76,12 @@ impl<'a> Script<'a> {
 }
 
 /// An array that fails so while hosts perform a script, and, started again, does not while they perform another, which stands
-/// behind the first and an empty line.
+/// behind the first and an empty line. By its name its file is found.
 #[derive(Clone, Copy)]
 pub struct Story<'a> {
     pub name: &'a str,
-    pub fault: &'a str,
-    pub scripts: &'a str,
+    pub faults: Faults,
+    pub text: &'a str,
 }
 
 /// A portal that is served.
@@ -328,11 +313,14 @@ impl<
         let _ended = self.perform::<Brand, _, _, _>(units, &disk, script);
     }
 
-    /// Hosts perform each script of a table, and what they send goes out in pieces of so many bytes.
-    pub fn run_all(&self, table: &str, piece: usize) {
+    /// Hosts perform each script of a table, before two units or before one, and what they send goes out in pieces of so many bytes.
+    pub fn run_all(&self, table: &str, is_alone: bool, piece: usize) {
         for part in table.split("\n\n") {
-            let mut script = Script::of(part);
-            script.piece = piece;
+            let script = Script {
+                is_alone,
+                piece,
+                ..Script::of(part)
+            };
             self.run(&script);
         }
     }
@@ -363,19 +351,14 @@ impl<
         blocks: B,
         file: F,
     ) {
-        let (before, after) = story.scripts.split_once("\n\n").expect(self.rt, story.name);
+        let (before, after) = story.text.split_once("\n\n").expect(self.rt, story.name);
         let before = Script::new(story.name, before);
-        let (ports, hosts) = self.serve_failing(
-            first,
-            first_file,
-            Faults::of(story.fault),
-            &before,
-        );
+        let (ports, hosts) = self.serve_failing(first, first_file, story.faults, &before);
         let again = Script {
             ports,
             ..Script::new(story.name, after)
         };
-        let _ended = self.serve_failing(blocks, file, Faults::of(""), &again);
+        let _ended = self.serve_failing(blocks, file, NO_FAULTS, &again);
         drop(hosts);
     }
 }
