@@ -3,6 +3,7 @@
 mod full;
 mod late;
 mod moves;
+mod rows;
 mod run;
 mod sessions;
 mod worlds;

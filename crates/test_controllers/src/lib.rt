@@ -14,6 +14,8 @@ mod histories;
 #[cfg(test)]
 mod lanes;
 #[cfg(test)]
+mod many;
+#[cfg(test)]
 mod moves;
 #[cfg(test)]
 mod runs;
