@@ -1,109 +1,80 @@
 //! The runner of the scripts over files (`scripts`).
 use crate::ends::must;
-use crate::kept::{Kept, opened_disk, opened_registrations};
 use crate::registered::registered;
 use crate::rows::{Row, row_of};
 use crate::runs::{clean, folder, path_of, reads, sized, writes};
 use aptpl_file::RegFile;
 use block_file::{Blocks, Opener};
-use disk_files::{FileBlocks, FileFault, UnitName, blocks_in, open_as};
+use disk_files::{
+    Disk, FileBlocks, FileFault, Registrations, UnitName, blocks_in, open_as, open_disk,
+    open_registrations,
+};
 use reservations::Record;
 use std::alloc::Global;
 use std::fmt::Debug;
 use std::fs;
 use std::fs::{File, Files};
-use std::os::unix::fs::{FileExt, MetadataExt};
+use std::os::unix::fs::MetadataExt;
 use std::process::Abort;
-use std::sync::Wait;
-use std::thread::Threads;
-use std::time::Clock;
 
-/// Plays each script of a table in a folder of this process; by threads, where calls have a deadline.
-pub fn play_each<
-    R: Files<File = File>
-        + Threads
-        + Wait
-        + Clock
-        + AllocGlobal
-        + Abort
-        + Clone
-        + Drop
-        + Send
-        + 'static,
->(rt: &R, process: u32, table: &str, is_timed: bool) {
+/// Plays each script of a table in a folder of this process.
+pub fn play_each<R: Files<File = File> + AllocGlobal + Abort + Copy + Drop>(
+    rt: &R,
+    process: u32,
+    table: &str,
+) {
     for script in table.split("\n\n") {
         let (name, rows) = script.split_once('\n').unwrap_or((script, ""));
         let folder = folder(rt, process, name);
-        play(rt, folder.as_str(), rows, is_timed);
+        play(rt, folder.as_str(), rows);
         clean(rt, folder.as_str());
     }
 }
 
 // Plays the rows of a script in a folder.
-fn play<
-    R: Files<File = File>
-        + Threads
-        + Wait
-        + Clock
-        + AllocGlobal
-        + Abort
-        + Clone
-        + Drop
-        + Send
-        + 'static,
->(rt: &R, folder: &str, rows: &str, is_timed: bool) {
-    let mut kept = Kept::Nothing;
+fn play<R: Files<File = File> + AllocGlobal + Abort + Copy + Drop>(
+    rt: &R,
+    folder: &str,
+    rows: &str,
+) {
+    let mut kept = None;
     for line in rows.split('\n') {
         let row = row_of(line);
         let path = path_of(rt, rt.alloc(), folder, row.on);
         must(
             rt,
-            ends_so(rt, &mut kept, path.as_str(), &row, is_timed),
+            ends_so(rt, &mut kept, path.as_str(), &row),
             folder,
             &line,
         );
     }
 }
 
-// Whether a call ends as its row says. The path is that of what it is on. What is opened is kept.
-fn ends_so<
-    R: Files<File = File>
-        + Threads
-        + Wait
-        + Clock
-        + AllocGlobal
-        + Abort
-        + Clone
-        + Drop
-        + Send
-        + 'static,
->(rt: &R, kept: &mut Kept<R>, path: &str, row: &Row, is_timed: bool) -> bool {
-    match row.word {
-        "open" => match opened_disk(rt, path, is_timed) {
+// Whether a call ends as its row says. The path is that of what it is on. A disk that is opened is kept.
+fn ends_so<R: Files<File = File> + AllocGlobal + Abort + Copy + Drop>(
+    rt: &R,
+    kept: &mut Option<Disk<R>>,
+    path: &str,
+    row: &Row,
+) -> bool {
+    if row.word == "open" {
+        match open_disk(*rt, rt.alloc(), path) {
             Ok(disk) => {
-                *kept = disk;
+                *kept = Some(disk);
                 row.ends(true)
             }
             Err(fault) => is_told(rt, rt.alloc(), &fault, row),
-        },
-        "keep" | "registrations" => match opened_registrations(rt, path, is_timed) {
-            Ok((file, record)) => {
-                let mut file = file;
-                let is_so = is_found(rt, &mut file, &record, row);
-                if row.word == "keep" {
-                    *kept = file;
-                }
-                is_so
-            }
-            Err(fault) => is_told(rt, rt.alloc(), &fault, row),
-        },
-        "save" => row.ends(kept.saves(rt, row.on)),
-        "close" => {
-            *kept = Kept::Nothing;
-            row.ends(true)
         }
-        _ if row.is_on_a_disk() => kept.does(rt, row),
-        _ => looks_so(rt, path, row),
+    } else if row.is_on_a_disk() {
+        match kept {
+            Some(disk) => is_done(rt, rt.alloc(), &mut disk.blocks, &mut disk.opener, row),
+            None => false,
+        }
+    } else if row.word == "close" {
+        *kept = None;
+        row.ends(true)
+    } else {
+        looks_so(rt, path, row)
     }
 }
 
@@ -112,8 +83,8 @@ fn is_told<D: Debug>(rt: &impl Abort, alloc: Global, fault: &D, row: &Row) -> bo
     format!(in alloc; "{fault:?}").expect(rt, "memory").as_str() == row.end
 }
 
-/// Makes a call on a disk. The lock on it is held all the while.
-pub fn is_done<B: Blocks, O: Opener<B>>(
+// Makes a call on a disk. The lock on it is held all the while.
+fn is_done<B: Blocks, O: Opener<B>>(
     rt: &impl Abort,
     alloc: Global,
     blocks: &mut B,
@@ -145,8 +116,8 @@ fn looks_so<R: Files<File = File> + AllocGlobal + Abort>(rt: &R, path: &str, row
             Err(_) => row.end == "none",
         },
         "filled" => row.ends(is_filled(rt, path)),
-        "sparse" => is_copied(rt, path, path_beside(rt, rt.alloc(), path, row).as_str()),
         "count" => is_counted(rt, rt.alloc(), count(rt, path), row),
+        "registrations" => is_opened(rt, rt.alloc(), path, row),
         "unit" => is_unit(rt, rt.alloc(), path, row),
         _ => changes(rt, rt.alloc(), path, row),
     }
@@ -198,24 +169,39 @@ fn is_unit<R: Files<File = File> + Abort>(rt: &R, alloc: Global, path: &str, row
     }
 }
 
+// Opens the registration file of a disk.
+fn is_opened<R: Files<File = File> + Abort>(rt: &R, alloc: Global, path: &str, row: &Row) -> bool {
+    match open_registrations(rt, alloc, path, None) {
+        Ok(
+            Registrations {
+                mut file,
+                record,
+                lock: _lock,
+            },
+        ) => is_found(rt, alloc, &mut file, &record, row),
+        Err(fault) => is_told(rt, alloc, &fault, row),
+    }
+}
+
 // Whether a record says what a row does. Then one of the row's key is saved, if it has one.
-fn is_found<R: Files<File = File> + Wait + Clock + AllocGlobal + Abort + Drop>(
-    rt: &R,
-    file: &mut Kept<R>,
+fn is_found<B: Blocks>(
+    rt: &impl Abort,
+    alloc: Global,
+    file: &mut RegFile<B>,
     record: &Record,
     row: &Row,
 ) -> bool {
     if !row.rest.is_empty() {
-        must(rt, file.saves(rt, row.rest), "a save", &row.rest);
+        save(rt, alloc, file, row.rest);
     }
-    told(rt, rt.alloc(), record).as_str() == row.end
+    told(rt, alloc, record).as_str() == row.end
 }
 
-/// Saves a record of a key: whether that was done.
-pub fn save<B: Blocks>(rt: &impl Abort, alloc: Global, file: &mut RegFile<B>, key: &str) -> bool {
+// Saves a record of a key.
+fn save<B: Blocks>(rt: &impl Abort, alloc: Global, file: &mut RegFile<B>, key: &str) {
     let number = u64::from_str_radix(key, 16).expect(rt, key);
     let registry = registered(rt, alloc, number, false);
-    file.save(&registry.lasting()).is_ok()
+    must(rt, file.save(&registry.lasting()).is_ok(), "a save", &key);
 }
 
 // What a record says: APTPL or not, and the key of its first registrant.
@@ -238,22 +224,6 @@ fn changes<R: Files<File = File> + Abort>(rt: &R, alloc: Global, path: &str, row
         "blocks_in" => is_counted(rt, alloc, blocks_in(row.on.parse().expect(rt, row.on)), row),
         _ => names(rt, path, path_beside(rt, alloc, path, row).as_str(), row),
     }
-}
-
-// Copies a file, and leaves out each of its blocks that holds zeros alone.
-fn is_copied<R: Files<File = File> + AllocGlobal>(rt: &R, from: &str, to: &str) -> bool {
-    let (Ok(bytes), Ok(file)) = (fs::read(rt, from), File::create(rt, to)) else {
-        return false;
-    };
-    let mut offset = 0u64;
-    for block in bytes.as_slice().chunks(512) {
-        let is_there = block.iter().any(|byte| *byte != 0);
-        if is_there && file.write_all_at(block, offset).is_err() {
-            return false;
-        }
-        offset = offset.saturating_add(512);
-    }
-    file.set_len(offset).is_ok()
 }
 
 // The path of the other name of a row.

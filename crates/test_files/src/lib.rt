@@ -19,8 +19,6 @@ mod fake;
 #[cfg(test)]
 mod flushes;
 #[cfg(test)]
-mod kept;
-#[cfg(test)]
 mod limits;
 #[cfg(test)]
 mod memory;
