@@ -48,10 +48,10 @@ BROKEN = {
     "full_disk": Broken(ONE, "crates/disk_files/src/blocks.rt", "            Ok(()) => Ok(()),\n            Err(error) => {\n"
                         "                self.tell(Call::Write,", "            Ok(()) => Ok(()),\n            Err(27) if first % 2 == 0 => Ok(()),\n            Err(error) => {\n"
                         "                self.tell(Call::Write,", "full_disk.py limit", "WRONG block"),
-    "failover": Broken(ONE, "crates/portal/src/unit_session.rt", "                answered(self.submit(rt, ReplyMemory::new(alloc)",
+    "failover": Broken(ONE, "crates/portal/src/unit_session.rt", "                answered(self.submit(",
                        "                if bytes.len() == 4096 {\n"
-                       "                    let _ = self.submit(rt, ReplyMemory::new(alloc), units, gate, asked, bytes);\n                }\n"
-                       "                answered(self.submit(rt, ReplyMemory::new(alloc)", "failover.py 8 5", "were answered"),
+                       "                    let _ = self.submit(rt, rooms.room_for(asked), units, gate, asked, bytes);\n                }\n"
+                       "                answered(self.submit(", "failover.py 8 5", "were answered"),
     "load": Broken(ONE, "crates/disk_files/src/blocks.rt", "        // A write behind the end would make the file longer",
                    "        if bytes.len() == 4096 && first > 4096 && first % 4096 == 0 {\n            return Ok(());\n        }\n"
                    "        // A write behind the end would make the file longer", "load.py 8 8 5", "faults"),
@@ -85,8 +85,8 @@ BROKEN = {
     "power": Broken(AS_IT_IS, "trials/power.c", "        take(fd, file, sector);\n        pthread_mutex_unlock",
                     "        if (found.st_size != 8192 * SECTOR)\n            take(fd, file, sector);\n        pthread_mutex_unlock", "power.py --rounds 3",
                     "things are lost"),
-    "service": Broken(AS_IT_IS, "service/arrayd-console", '        written(folder, b"quit\n")\n    ended(folder, limit)\n',
-                      '        written(folder, b"quit\n")\n', "service.sh", "FAILED  quit waits until it has ended"),
+    "service": Broken(AS_IT_IS, "service/arrayd-console", "    ended(folder, limit)\n    return lines, status\n", "    return lines, status\n",
+                      "service.sh", "FAILED  quit waits until it has ended"),
 }
 # These find what is planted by themselves, or are seen to find it by another.
 BY_OTHERS = ("chaos_as_it_is", "calls_with_deadline", "ceph", "ceph_lying_cache", "ceph_not_blocklisted", "ceph_gateways", "ceph_gateways_not_blocklisted",

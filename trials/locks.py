@@ -2,8 +2,7 @@
 held. That is the table of docs/ARCHITECTURE.md, "The order of locks"; the two have to say the same.
 """
 
-# By the function that takes it, the innermost first that has a row; a row may name the caller too. Where one function takes two locks,
-# the first that it takes stands before the other.
+# By the function that takes it, the innermost first that has a row; a row may name the caller too.
 TAKEN_BY = (
     ("portal::target::SessionTarget::join", "logins"),
     ("unit_lock::unit::LockedUnit", "unit"),
@@ -24,11 +23,8 @@ TAKEN_BY = (
     ("disk_files::flushes::Flushes::covers", "flushed"),
     ("event_log::meters::reach event_log::meters::Hand", "counts"),
     ("event_log::meters::Meter::seen", "counts"),
-    ("event_log::meters::Meters::sum", "book", "counts"),
-    ("event_log::meters::Meters::keep", "book", "counts"),
-    ("event_log::meters::Meters::recent", "book"),
-    ("event_log::meters::Meters::enter", "book"),
-    ("event_log::meters::Meters::leave", "book"),
+    ("event_log::meters::Book", "counts"),
+    ("event_log::meters::Meters", "book"),
     ("event_log::log", "lines"),
     ("event_log::writer", "lines"),
     ("portal::memory", "kept memory"),
@@ -58,18 +54,11 @@ def row_of(frames):
 
 def classes_of(chaos, names):
     """The lock of each place where one was taken, by the place's key."""
-    rows = {site.key: row_of(names.of_site(site)) for site in chaos.sites()}
-    first = {}
-    for site in chaos.sites():
-        row = rows[site.key]
-        first[row] = min(first.get(row, site.frames[0]), site.frames[0])
     found = {}
     for site in chaos.sites():
-        row = rows[site.key]
-        if row is None:
-            found[site.key] = "? " + " < ".join(names.of_site(site)[:2])
-        else:
-            found[site.key] = row[1] if len(row) == 2 or site.frames[0] == first[row] else row[2]
+        frames = names.of_site(site)
+        row = row_of(frames)
+        found[site.key] = row[1] if row else "? " + " < ".join(frames[:2])
     return found
 
 
