@@ -29,7 +29,7 @@ from ceph import Lost, must_be_whole, say
 from ceph_cluster import USER, Cluster
 from ceph_gateways_build import GUEST, IMAGES, KEYRING, PLACE
 from ceph_hosts import MayFail, Witness
-from running import TOP, Wrong
+from running import TOP, Wrong, library
 from two_machines import tell_consoles
 from two_machines_emulated import NICE, Machine
 from two_machines_plan import Root, as_cib, block_of, in_order, place, with_both
@@ -71,7 +71,7 @@ class Gateway(Machine):
 
     def __init__(self, name, folder, run, cluster=None):
         super().__init__(name, "plain", folder, run, None)
-        self.cluster, self.alive = cluster, None
+        self.cluster, self.alive, self.registers = cluster, None, library("trials/wide_registers.c", run)
         network("tuntap", "add", "dev", f"tap-{name}", "mode", "tap")
         plug(name)
 
@@ -81,7 +81,7 @@ class Gateway(Machine):
     def words(self, root):
         return [
             "setpriv", "--pdeathsig", "KILL", "nice", "-n", NICE, "unshare", "--pid", "--fork", "--kill-child=KILL", "--mount-proc",
-            "sh", "-c", '"$@" & wait', "sh", "linux.uml", f"mem={MEMORY}M", f"ubd0={root},{os.path.join(self.folder, 'root.img')}",
+            "sh", "-c", '"$@" & wait', "sh", "env", f"LD_PRELOAD={self.registers}", "linux.uml", f"mem={MEMORY}M", f"ubd0={root},{os.path.join(self.folder, 'root.img')}",
             "root=/dev/ubda", "rw", "con=null", "con0=null,fd:1", f"vec0:transport=tap,ifname=tap-{self.name},depth=128,gro=1",
             f"init={PLACE}/plain", f"machine={self.name}", "panic=1", "loglevel=4",
         ]

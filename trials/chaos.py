@@ -19,7 +19,8 @@ usage: trials/chaos.py [--seeds N] [--from SEED] [--jobs J]       N seeds, 50 wh
        trials/chaos.py --planted [NAME..]                         has to find what is planted, within 50 seeds each: by the library, or
                                                                   in copies of the tree (trials/chaos_plants.py)
 
-`--first` ends with the first that is found. `--locks` tells of each lock how often it was taken, and how long it was held.
+`--first` ends with the first that is found; `--first NAME` with the first that says what it has to of what is planted under this name.
+`--locks` tells of each lock how often it was taken, and how long it was held.
 `--stays-lost` expects a disk that hung past its deadline to serve no more until a restart. The program is ./arrayd, or what ARRAYD
 names. Locks are seen in one that tools/unproved.py compiled. In another one, as a proved one, threads are stood at calls of the system and
 stopped between them, and all is looked at but locks: the summary says so. `--unproved` takes one that it compiles in its place. Histories are
@@ -42,7 +43,7 @@ import time
 
 from chaos_hosts import BLOCKS, UNITS, Host, Load, Looker, Operator, last_look, numbers_in
 from chaos_model import ATTACH, READ, RESTART, Op, Unit
-from chaos_plants import PLANTS, compile_with, compiled
+from chaos_plants import PLANTS, SAID, compile_with, compiled
 from chaos_run import FAULTS, Chaos, Names, library, sees_locks
 from free_port import free_port
 from initiator import BUSY
@@ -323,11 +324,15 @@ def many(seeds, words, built):
     return 1 if found else 3 if undecided else 0
 
 
-def first_found(words, built, fault=None):
-    """The first line of what is found, with the seed, and how many were tried; within as many seeds as there may be."""
+def first_found(words, built, said, fault=None):
+    """The first line of what is found and says one of these, with the seed, and how many were tried; within as many seeds as there may
+    be. What else is found is told as it comes."""
     for count, result in enumerate(each(range(words.first, words.first + (words.seeds or MANY)), built, words.jobs, fault, words.stays_lost), 1):
+        found = [finding for finding in result.findings if any(one in finding for one in said)]
+        if found:
+            return f"found by seed {result.seed}, the {count}. of them: " + "; ".join(one.splitlines()[0] for one in found[:2])
         if result.findings:
-            return f"found by seed {result.seed}, the {count}. of them: " + "; ".join(one.splitlines()[0] for one in result.findings[:2])
+            print(f"seed {result.seed} found something else:", *result.findings, sep="\n  ", file=sys.stderr, flush=True)
     return ""
 
 
@@ -339,10 +344,10 @@ def again(program, *words, **how):
 def planted(name, words, built, folder):
     """Whether what is planted is found: by the library, or in a program of its own."""
     if name in FAULTS:
-        told = first_found(words, built, name)
+        told = first_found(words, built, SAID[name], name)
     else:
         program = compile_with([PLANTS[name]], os.path.join(folder, name))
-        told = again(program, "--first", "--seeds", str(words.seeds or MANY), "--jobs", str(words.jobs), stdout=subprocess.PIPE).stdout.strip()
+        told = again(program, "--first", name, "--seeds", str(words.seeds or MANY), "--jobs", str(words.jobs), stdout=subprocess.PIPE).stdout.strip()
     print(f"{name}: {told or 'NOT found'}", flush=True)
     return bool(told)
 
@@ -365,7 +370,7 @@ def main():
         words.add_argument(name, type=int, default=default, dest=name.strip("-") if name != "--from" else "first")
     for name in ("--found", "--locks", "--stays-lost", "--unproved"):
         words.add_argument(name, action="store_true")
-    words.add_argument("--first", action="store_true", dest="only_first")
+    words.add_argument("--first", nargs="?", choices=[*PLANTS], const="", default=None, dest="first_of")
     words.add_argument("--planted", nargs="*", choices=[*FAULTS, *PLANTS], default=None)
     words = words.parse_args()
     if not os.path.isfile(ARRAYD):
@@ -377,8 +382,8 @@ def main():
             status = again(compiled(TOP, os.path.join(folder, "arrayd")), *rest).returncode
         elif words.planted is not None:
             status = 0 if all([planted(name, words, built, folder) for name in words.planted or (*FAULTS, *PLANTS)]) else 1
-        elif words.only_first:
-            told = first_found(words, built)
+        elif words.first_of is not None:
+            told = first_found(words, built, SAID.get(words.first_of, ("",)))
             print(told, end="")
             status = 1 if told else 0
         else:

@@ -14,12 +14,24 @@ PLANTS = {
                  "        let mut sessions = self.server.device.sessions.lock(rt);\n"
                  "        let _turn = self.server.device.beginning.lock(rt);\n"
                  "        sessions.shut(tsih)\n"),
-    # what was read beside the unit counts, though a write has ended since
-    "stale": ("crates/disk_files/src/blocks.rt", "        if self.flushes.is_some() && self.holds_now(first, &memory) {\n",
-              "        if self.flushes.is_some() && (self.holds_now(first, &memory) || memory.bytes.len() == 512) {\n"),
+    # what was read ahead counts, though a write has ended since
+    "stale": ("crates/disk_preparer/src/memory.rt", "beside.first == first && beside.writes == writes\n",
+              "beside.first == first && beside.writes <= writes\n"),
     # a registration that is to outlast a restart is not saved
     "unsaved": ("crates/unit_control/src/saving.rt", "            if control.is_to_save(scratch) {\n",
                 "            if control.is_to_save(scratch) && control.is_full() {\n"),
+}
+
+
+# Of what is planted here, and by the library: what is said where it is found. Another finding is none of it.
+SAID = {
+    "lost_wake": ("nothing was answered for", ": no answer for"),
+    "stale_read": ("no order of the commands",),
+    "early_reply": ("no order of the commands",),
+    "lost_save": ("no order of the commands",),
+    "deadlock": ("these threads wait for each other",),
+    "stale": ("no order of the commands",),
+    "unsaved": ("no order of the commands",),
 }
 
 

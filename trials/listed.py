@@ -51,7 +51,7 @@ LINUX = folder("LINUX_HOST", "trials/linux_host.py build FOLDER")
 PACKAGED = folder("PACKAGE_MACHINE", "trials/package.py build FOLDER")
 GATEWAYS = folder("CEPH_GATEWAYS", "trials/ceph_gateways.py build FOLDER")
 CEPH = commands("ceph-mon", "ceph-osd", "ceph-mgr", "ceph")
-UML = commands("linux.uml")
+UML = commands("linux.uml", "cc")
 DOWNLOADS = "building its folder downloads Debian's packages; a run installs nothing here"
 
 TRIALS = [

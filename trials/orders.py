@@ -5,25 +5,34 @@ came of it, are looked at once.
 
     order_of(ops, unit)     an `Order`: is_found, or what was placed at most, and what could have come next
 
-Three things keep it short. Who asks one after the other is answered in this order (docs/PROFILE.md), so only the next of each lane is
-looked at. And what may come next, and answered so would leave the unit as it is at any time, comes at once: an order with it later is
-one with it here too. And each number is written once, and each key registered once: what somebody has still to find in a block is not
-overwritten, and neither its write nor the registration of a key that is found is left behind.
+Four things keep it short. Who asks one after the other is answered in this order (docs/PROFILE.md), so only the next of each lane is
+looked at. And what may come next, and would be answered so and change the same at any time until it has to come, comes at once: an
+order with it later is one with it here too. And each number is written once, and each key registered once: what somebody has still to
+find in a block is not overwritten, and neither its write nor the registration of a key that is found is left behind. And a session is
+told what waits for it before all else: so its next answers say which attentions may wait, and something that has not come yet has to
+raise the others.
 What was not answered may have been done, or not.
 """
 
 import collections
 import random
 
-from chaos_model import ATTACH, COMPARE, DOWN, FLUSH, IN, MISCOMPARE, OUT, READ, READY, RESET, RESTART, SET, STATES, UP, WRITE
+from chaos_model import (ATTACH, COMPARE, DOWN, FLUSH, IN, MISCOMPARE, OF_NOBODY, OUT, READ, READY, RESET, RESTART, SET, STATES,
+                         STATES_CHANGED, UP, WRITE)
 from initiator import BUSY, CHECK_CONDITION, GOOD, RESERVATION_CONFLICT
-from reservations import REGISTER, REGISTER_AND_IGNORE
+from reservations import POWER_ON, REGISTER, REGISTER_AND_IGNORE
 
 # How a history is searched: with which choices first (0: by when they ended), and with how many states at most. An unlucky choice early
 # on may cost them all, so the search begins anew some times. A history that no search decides is told as one that was not decided.
 FEW, MOST = 2_000, 30_000
 SEARCHES = ((0, FEW), (1, FEW), (2, FEW), (0, MOST), *((seed, MOST) for seed in range(3, 6)))
 
+# What raises which unit attention; all others are raised by registrations. And what else may change what waits for a session.
+RAISES = {STATES_CHANGED: (DOWN, UP, SET), POWER_ON: (RESET,)}
+CHANGES_WAITING = (ATTACH, DOWN, OUT, RESET, SET, UP)
+
+# An answer of a lane: its place there, the attention that it tells, if it is one, and when it came.
+Told = collections.namedtuple("Told", "place code end")
 Order = collections.namedtuple("Order", "is_found is_decided placed left states unit")
 
 
@@ -56,6 +65,18 @@ def lanes_of(ops):
         while lane and lane[-1].end is None and not may_be_seen(lane[-1], found):
             lane.pop()
     return [lanes[lane] for lane in sorted(lanes, key=str)]
+
+
+def told_in(lane):
+    """The answers of a lane, in their order; none that is behind something that was not answered."""
+    found = []
+    for place, op in enumerate(lane):
+        if op.end is None:
+            break
+        if op.reply and op.reply[0] != BUSY:
+            sense = op.reply[1]
+            found.append(Told(place, sense[1:] if sense and sense[0] == 6 else None, op.end))
+    return found
 
 
 def may_be(block):
@@ -99,6 +120,11 @@ class Search:
             for place, op in enumerate(ops_):
                 for found in found_by(op):
                     self.finders[found].append((lane, place))
+        self.told_in = [told_in(lane) for lane in self.lanes]
+        self.raisers = collections.defaultdict(list)
+        for lane, ops_ in enumerate(self.lanes):
+            for place, op in enumerate(ops_):
+                self.raisers[op.kind].append((op.start, lane, place))
         self.met, self.best, self.states = set(), (-1, (), (), unit), 0
 
     def heads(self, at):
@@ -114,15 +140,33 @@ class Search:
     def moved(at, lane):
         return at[:lane] + (at[lane] + 1,) + at[lane + 1:]
 
-    def harmless(self, at, unit):
-        """The first that may come now and, answered so, leaves any unit as it is."""
+    def at_once(self, at, unit):
+        """The first that may come now, and as well now as later, with the unit behind it."""
         for lane, op in self.heads(at):
-            if not leaves_all(op):
-                continue
-            then = unit.copy()
-            if then.apply(op) and then.blocks == unit.blocks:
-                return lane, op
+            if leaves_all(op):
+                then = unit.copy()
+                if then.apply(op) and then.blocks == unit.blocks:
+                    return lane, op, unit
+            elif self.waits_for_nothing(at, op, unit):
+                then = unit.copy()
+                if then.apply(op):
+                    return lane, op, then
         return None
+
+    def waits_for_nothing(self, at, op, unit):
+        """Whether this changes nothing but what waits for its session, and nothing can come before its end that raises what it takes
+        away; of a login, that raises anything for it, or is its session's forerunner's."""
+        if op.end is None:
+            return False
+        if op.reply and op.reply[1] and op.reply[1][0] == 6:
+            return not self.may_come(at, RAISES.get(op.reply[1][1:], (OUT,)), op.end)
+        if op.kind != ATTACH or self.may_come(at, (DOWN, RESET, RESTART, SET, UP), op.end):
+            return False
+        if any(place < len(lane) and lane[0].nexus == op.nexus and lane[0].session < op.session for lane, place in zip(self.lanes, at)):
+            return False
+        # registrations raise something for those that are registered, and some are made for a sibling too
+        outs = [self.lanes[lane][place] for start, lane, place in self.raisers[OUT] if place >= at[lane] and start <= op.end]
+        return not outs or (op.nexus not in unit.keys and not any(out.given.all_ports for out in outs))
 
     def overwrites(self, at, unit, then):
         """Whether what somebody has still to find is gone then. Each number is written once, so it does not come back."""
@@ -146,9 +190,46 @@ class Search:
             return op.given.new_key not in then.keys.values()
         return any(number in self.found and number not in may_be(then.blocks[at]) for at, number in enumerate(op.given[-1], op.given[0]))
 
+    def may_come(self, at, kinds, end):
+        """Whether something of these kinds is not placed yet, and may come before this time."""
+        return any(place >= at[lane] and start <= end for kind in kinds for start, lane, place in self.raisers[kind])
+
+    def is_told(self, at, lane, unit):
+        """Whether a session's next answers can tell what waits for it, and of the others something is there yet to raise the next."""
+        left = [told for told in self.told_in[lane] if told.place >= at[lane]]
+        if not left:
+            return True
+        first = self.lanes[lane][0]
+        if unit.serials.get(first.nexus) == first.session:
+            waits = unit.pending[first.nexus]
+        elif at[lane] == 0:
+            waits = [POWER_ON]
+        else:
+            return True
+        for code, told in zip(waits, left):
+            if told.code != code:
+                # a reset takes the place of all that waits
+                return told.code == POWER_ON and self.may_come(at, (RESET,), told.end)
+        told = next((told for told in left[len(waits):] if told.code), None)
+        return told is None or self.may_come(at, RAISES.get(told.code, (OUT,)), told.end)
+
     def is_possible(self, at, lane, op, unit, then):
         """Whether what was found can still be found behind this."""
-        return not (self.overwrites(self.moved(at, lane), unit, then) or self.cuts_off(at, op) or self.does_nothing(op, then))
+        moved = self.moved(at, lane)
+        is_lost = self.overwrites(moved, unit, then) or self.cuts_off(at, op) or self.does_nothing(op, then)
+        return not is_lost and self.are_told(moved, op, then)
+
+    def is_in_vain(self, at, lane, op, unit, then):
+        """Whether this was not answered, is the last of its lane, and changes nothing that others see: it may as well be left out."""
+        if op.end is not None or op.kind in OF_NOBODY or at[lane] + 1 < len(self.lanes[lane]):
+            return False
+        before = unit.copy()
+        before.pending[op.nexus], before.serials[op.nexus] = then.pending.get(op.nexus, []), then.serials.get(op.nexus)
+        return before.identity() == then.identity()
+
+    def are_told(self, at, op, unit):
+        """Whether all sessions can be told what waits for them behind this."""
+        return op.kind not in CHANGES_WAITING or all(self.is_told(at, lane, unit) for lane in range(len(self.lanes)))
 
     def cuts_off(self, at, op):
         """Whether a login in another's place, or a restart, leaves behind what has still to come."""
@@ -162,17 +243,18 @@ class Search:
         found = []
         for lane, op in self.heads(at):
             then = unit.copy()
-            if then.apply(op) and self.is_possible(at, lane, op, unit, then):
+            if then.apply(op) and self.is_possible(at, lane, op, unit, then) and not self.is_in_vain(at, lane, op, unit, then):
                 found.append((self.moved(at, lane), then, op))
-            if op.is_optional:
+            if op.is_optional and self.are_told(self.moved(at, lane), op, unit):
                 found.append((self.moved(at, lane), unit, None))
         return found[::-1]
 
     def settle(self, at, unit, path):
-        """Places what changes nothing, whenever it comes."""
-        while (found := self.harmless(at, unit)) is not None:
-            at, path = self.moved(at, found[0]), (found[1], path)
-        return at, path
+        """Places what may as well come now as later."""
+        while (found := self.at_once(at, unit)) is not None:
+            lane, op, unit = found
+            at, path = self.moved(at, lane), (op, path)
+        return at, unit, path
 
     def is_whole(self, at):
         return all(op.end is None for lane, place in zip(self.lanes, at) for op in lane[place:])
@@ -185,7 +267,7 @@ class Search:
         open_ = [((0,) * len(self.lanes), unit, ())]
         while open_:
             at, unit, path = open_.pop()
-            at, path = self.settle(at, unit, path)
+            at, unit, path = self.settle(at, unit, path)
             self.note(at, unit, path)
             if self.is_whole(at):
                 return self.told(True, True)
