@@ -5,12 +5,12 @@ came of it, are looked at once.
 
     order_of(ops, unit)     an `Order`: is_found, or what was placed at most, and what could have come next
 
-Four things keep it short. Who asks one after the other is answered in this order (docs/PROFILE.md), so only the next of each lane is
+Five things keep it short. Who asks one after the other is answered in this order (docs/PROFILE.md), so only the next of each lane is
 looked at. And what may come next, and would be answered so and change the same at any time until it has to come, comes at once: an
 order with it later is one with it here too. And each number is written once, and each key registered once: what somebody has still to
 find in a block is not overwritten, and neither its write nor the registration of a key that is found is left behind. And a session is
 told what waits for it before all else: so its next answers say which attentions may wait, and something that has not come yet has to
-raise the others.
+raise the others. And what tells of registrations tells how many requests came before it.
 What was not answered may have been done, or not.
 """
 
@@ -20,7 +20,7 @@ import random
 from chaos_model import (ATTACH, COMPARE, DOWN, FLUSH, IN, MISCOMPARE, OF_NOBODY, OUT, READ, READY, RESET, RESTART, SET, STATES,
                          STATES_CHANGED, UP, WRITE)
 from initiator import BUSY, CHECK_CONDITION, GOOD, RESERVATION_CONFLICT
-from reservations import POWER_ON, REGISTER, REGISTER_AND_IGNORE
+from reservations import CLEAR, POWER_ON, PREEMPT, PREEMPT_AND_ABORT, REGISTER, REGISTER_AND_IGNORE
 
 # How a history is searched: with which choices first (0: by when they ended), and with how many states at most. An unlucky choice early
 # on may cost them all, so the search begins anew some times. A history that no search decides is told as one that was not decided.
@@ -30,6 +30,8 @@ SEARCHES = ((0, FEW), (1, FEW), (2, FEW), (0, MOST), *((seed, MOST) for seed in 
 # What raises which unit attention; all others are raised by registrations. And what else may change what waits for a session.
 RAISES = {STATES_CHANGED: (DOWN, UP, SET), POWER_ON: (RESET,)}
 CHANGES_WAITING = (ATTACH, DOWN, OUT, RESET, SET, UP)
+# Which requests count.
+COUNTS = (REGISTER, REGISTER_AND_IGNORE, CLEAR, PREEMPT, PREEMPT_AND_ABORT)
 
 # An answer of a lane: its place there, the attention that it tells, if it is one, and when it came.
 Told = collections.namedtuple("Told", "place code end")
@@ -125,6 +127,14 @@ class Search:
         for lane, ops_ in enumerate(self.lanes):
             for place, op in enumerate(ops_):
                 self.raisers[op.kind].append((op.start, lane, place))
+        # requests that count, or may; and how many each answer says there were
+        self.requests, self.counted = [], []
+        for lane, ops_ in enumerate(self.lanes):
+            for place, op in enumerate(ops_):
+                if op.kind == OUT and op.given.action in COUNTS and (op.end is None or op.reply[0] == GOOD):
+                    self.requests.append((lane, place, op))
+                elif op.kind == IN and op.given != 2 and op.reply and op.reply[0] == GOOD:
+                    self.counted.append((lane, place, op, int.from_bytes(op.reply[2][:4], "big")))
         self.met, self.best, self.states = set(), (-1, (), (), unit), 0
 
     def heads(self, at):
@@ -217,7 +227,28 @@ class Search:
         """Whether what was found can still be found behind this."""
         moved = self.moved(at, lane)
         is_lost = self.overwrites(moved, unit, then) or self.cuts_off(at, op) or self.does_nothing(op, then)
-        return not is_lost and self.are_told(moved, op, then)
+        return not is_lost and self.are_told(moved, op, then) and self.is_counted(moved, op, then)
+
+    def is_counted(self, at, op, unit):
+        """Whether so many requests can still count behind this as answers say. Those that were not answered may, unless a login has taken
+        the place of their session."""
+        open_ = [(lane, place, other) for lane, place, other in self.requests if place >= at[lane]]
+        if op.kind == ATTACH:
+            if not any(other.end is None and other.nexus == op.nexus and other.session < op.session for _, _, other in open_):
+                return True
+        elif op.kind != OUT or op.end is not None:
+            return True
+        open_ = [other for lane, _, other in open_
+                 if other.end is not None or at[lane] == 0 or unit.serials.get(other.nexus) == other.session]
+        restart = min((start for start, lane, place in self.raisers[RESTART] if place >= at[lane]), default=None)
+        for lane, place, answer, count in self.counted:
+            if place < at[lane] or (restart is not None and answer.start > restart):
+                continue
+            least = sum(other.end is not None and other.end < answer.start for other in open_)
+            most = sum(other.start <= answer.end for other in open_)
+            if not least <= count - unit.generation <= most:
+                return False
+        return True
 
     def is_in_vain(self, at, lane, op, unit, then):
         """Whether this was not answered, is the last of its lane, and changes nothing that others see: it may as well be left out."""
