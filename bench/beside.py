@@ -8,6 +8,7 @@ meanwhile. It wants rustc, by which it builds the client, a C compiler, and the 
 named.
 
 usage: bench/beside.py [--seconds N] [--runs N] [--only WORDS] [--size MIB] [--depths N,..] [--before PROGRAM] [--controller C]
+       bench/beside.py --shipped ..     arrayd with a deadline, a window and a log, as its service starts it, beside itself without them too
        bench/beside.py --limit ..       beside the limit alone
        bench/beside.py --limit --letters LETTERS ..     beside a limit that reads into a buffer, as limit.c says
 
@@ -59,6 +60,18 @@ class Arrayd(Array):
 
     def __init__(self, disk, program=ARRAYD):
         super().__init__([disk], program=program)
+
+    def end(self):
+        self.last_words("quit\n")
+
+
+class Shipped(Array):
+    """An arrayd as its service starts it."""
+    unit = 0
+
+    def __init__(self, disk, program=ARRAYD):
+        with_all = {"ARRAYD_DEADLINE": "20", "ARRAYD_HTTP": f"127.0.0.1:{PORT + 9}"}
+        super().__init__([disk], program=program, log=os.path.join(os.path.dirname(disk), "log"), more=with_all)
 
     def end(self):
         self.last_words("quit\n")
@@ -120,14 +133,15 @@ def measure(start, disk, program, port, words):
         server.end()
 
 
-def told(line, medians, name):
-    """What is printed of the medians of each program, of which arrayd's come first and those of the limit last."""
+def told(line, medians, names):
+    """What is printed of the medians of each program, of which arrayd's come first, then those of these names, and those of the limit
+    last."""
     (rate, user, system), *others, limit = medians
     text = f"{line}: arrayd {rate:,.0f} a second"
-    for other in others:
+    for name, other in zip(names, others):
         text += f", {name} {other[0]:,.0f}: {rate / other[0]:.2f}, {1e6 / rate - 1e6 / other[0]:+.2f} us a command"
     text += f"; processor, user and system: arrayd {user:.1f} and {system:.1f} us"
-    for other in others:
+    for name, other in zip(names, others):
         text += f", {name} {other[1]:.1f} and {other[2]:.1f}"
     return text + (f"; the limit {limit[0]:,.0f} a second, {limit[1]:.1f} and {limit[2]:.1f} us: rate {rate / limit[0]:.2f}, "
                    f"processor {(user + system) / (limit[1] + limit[2]):.2f}")
@@ -136,11 +150,14 @@ def told(line, medians, name):
 def compare(asked, line, run, disk, program):
     """Runs each program in turn, in which each goes first in every so many turns, and prints the line."""
     port = PORT + 4 * (asked.controller - 1)
-    programs = [(Arrayd, port), (Limit, PORT)]
+    one, others = (Shipped if asked.shipped else Arrayd), {}
     if asked.before:
-        programs.insert(1, (lambda disk: Arrayd(disk, asked.before), port))
+        others["before"] = lambda disk: one(disk, asked.before), port
     elif not asked.limit:
-        programs.insert(1, (Tgt, PORT))
+        others["tgt"] = Tgt, PORT
+    if asked.shipped:
+        others["bare"] = Arrayd, port
+    programs = [(one, port), *others.values(), (Limit, PORT)]
     got = [[] for _ in programs]
     for turn in range(asked.runs):
         order = list(range(len(programs)))
@@ -148,7 +165,7 @@ def compare(asked, line, run, disk, program):
             start, at = programs[which]
             got[which].append(undisturbed(lambda: measure(start, disk, program, at, run)))
     medians = [[statistics.median(r[k] for r in runs) for k in range(3)] for runs in got]
-    print(told(line, medians, "before" if asked.before else "tgt"), flush=True)
+    print(told(line, medians, others), flush=True)
 
 
 def main():
@@ -160,6 +177,7 @@ def main():
     words.add_argument("--depths", default="1,32", help="how many commands a session has open")
     words.add_argument("--before", help="another arrayd, in place of tgt")
     words.add_argument("--limit", action="store_true", help="beside the limit alone")
+    words.add_argument("--shipped", action="store_true", help="with a deadline, a window and a log")
     words.add_argument("--letters", help="how the limit sends what is read")
     words.add_argument("--controller", type=int, choices=(1, 2), default=1, help="of an arrayd, which sessions go through")
     asked = words.parse_args()
