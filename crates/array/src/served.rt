@@ -33,7 +33,7 @@ use std::rt::Files;
 use std::sync::{Arc, Mutex, Wait};
 use std::thread::Threads;
 use std::time::Clock;
-use unit_history::{LegalHistory, NewUnit, Opened, Pass};
+use unit_history::{NewUnit, Opened};
 use unit_sequence::Namings;
 
 // By what hosts find the array: the target's name, and where each controller's portals listen; and the log that is told.
@@ -127,14 +127,7 @@ impl<
         requires second { AreLanesOf Two _lanes.now.1 }
     {
         for Portal { listener, group } in portals {
-            let loops = listen::<
-                R,
-                Controllers<B, F, O, N>,
-                G,
-                Pass<B, F, O, N>,
-                LegalHistory<B, F, O, N>,
-                SmallStacks,
-            >(
+            let loops = listen(
                 self.rt,
                 self.alloc,
                 listener,

@@ -89,13 +89,15 @@ impl<B: Blocks, F: Blocks, O: Opener<B>, N: Namings<Opened>> Controllers<B, F, O
     }
 }
 
-impl<B: Blocks, F: Blocks, O: Opener<B>, N: Namings<Opened>> LogicalUnits<
-    UnitPass<B, F, O, N>,
-    LegalHistory<B, F, O, N>,
-> for Controllers<B, F, O, N> {
+impl<B: Blocks, F: Blocks, O: Opener<B>, N: Namings<Opened>> LogicalUnits
+    for Controllers<B, F, O, N> {
     ghost use Rattle.unit_history.specs.Calls.{HasWorked};
     ghost use Rattle.unit_entries.specs.Devices.{claims_of, devices};
     ghost use Rattle.portal.specs.Leaving.{has_left};
+
+    type Right = UnitPass<B, F, O, N>;
+
+    type History = LegalHistory<B, F, O, N>;
 
     ghost unit_count = { λ c. c };
 

@@ -13,12 +13,12 @@ ghost use Rattle.portal.specs.Late.{late_at, late_of, never};
 ghost use Rattle.portal.specs.Units.{any_device};
 
 use crate::gate::Gate;
-use crate::units::{LogicalUnits, Pass};
+use crate::units::LogicalUnits;
 use unit_state::laws::serials_count_commands;
 
 /// Put each of a session's commands, as it was asked and answered, in the place of its entry. The history is then still legal over any
 /// device, leads to the same state at each place, and differs in entries of the session's own alone.
-pub fn what_was_told_stands_in_one_history<U: LogicalUnits<P, H>, P: Pass, H: Drop, G: Gate>()
+pub fn what_was_told_stands_in_one_history<U: LogicalUnits, G: Gate>()
     ensures { (s : UnitState) (unit : ℕ) (nexus : Nexus) (done : List Done) (history : List Entry)
         → (is : HasDone U.claims (late_at (late_of G.is_late G.lasts) unit) s nexus done history)
         → (told : List Entry) × (again : HasDone any_device never s nexus done told) × (length again.before ≡ length is.before)
@@ -28,7 +28,7 @@ pub fn what_was_told_stands_in_one_history<U: LogicalUnits<P, H>, P: Pass, H: Dr
 /// So it is for all sessions that have left a unit, where no two have one number: there is one legal history in which each of their
 /// commands stands as it was asked and answered. What a session has seen leads to the same state at each place as the beginning of that
 /// history, and differs from it in own entries of these sessions alone.
-pub fn all_that_was_told_stands_in_one_history<U: LogicalUnits<P, H>, P: Pass, H: Drop, G: Gate>()
+pub fn all_that_was_told_stands_in_one_history<U: LogicalUnits, G: Gate>()
     ensures { (s : UnitState) (unit : ℕ) (leavers : List (Leaver U.claims (late_at (late_of G.is_late G.lasts) unit) s))
         → AllPairs (AreTwo U.claims (late_at (late_of G.is_late G.lasts) unit) s) leavers
         → (told : List Entry) × IsLegal false s told
@@ -37,7 +37,7 @@ pub fn all_that_was_told_stands_in_one_history<U: LogicalUnits<P, H>, P: Pass, H
 
 /// A session's own entries are those with its number, which is the place of its own Attach. So it shares none with another session, also
 /// with an older one of its nexus: no entry before its Attach has this number, none has two, and at one place one nexus has attached.
-pub fn two_sessions_share_no_entry<U: LogicalUnits<P, H>, P: Pass, H: Drop, G: Gate>()
+pub fn two_sessions_share_no_entry<U: LogicalUnits, G: Gate>()
     ensures attach { (s : UnitState) (unit : ℕ) (nexus : Nexus) (done : List Done) (history : List Entry)
         → (is : HasDone U.claims (late_at (late_of G.is_late G.lasts) unit) s nexus done history)
         → IsAttachOf nexus (length is.before) history }

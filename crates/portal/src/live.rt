@@ -147,7 +147,8 @@ impl<C> Table<C> {
         }
     }
 
-    /// A session begins to live: its number and its TSIH. An older one of the same port, group and kind is over, and its connection ends (RFC 7143, 6.3.5).
+    /// A session begins to live: its number and its TSIH. An older one of the same port, group and kind is over, and its connection
+    /// ends (RFC 7143, 6.3.5).
     pub fn enter(&mut self, new: NewSession, connection: C) -> Result<(u64, u16), EnterFault>
     where
         C: Connection + Drop,

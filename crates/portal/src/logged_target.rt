@@ -7,7 +7,7 @@ use crate::observer::Observer;
 use crate::sessions::Sessions;
 use crate::target::{BeginFault, SessionTarget};
 use crate::told::{is_trouble, operation_of, reservation_in, sense_of, states_in};
-use crate::units::{LogicalUnits, Pass};
+use crate::units::LogicalUnits;
 use event_log::{By, Cause, Event, Initiator, Log};
 use login::SessionType;
 use scsi_types::{Asked, Status};
@@ -150,29 +150,18 @@ impl<R: Wait + Clock> Teller<'_, '_, R> {
 pub struct LoggedTarget<
     'a,
     R: Wait + Clock,
-    U: LogicalUnits<P, H> + Drop,
+    U: LogicalUnits + Drop,
     G: Gate + Drop,
-    S: Sessions<C> + Drop,
-    C: Connection + Drop,
-    P: Pass,
-    H: Drop,
+    S: Sessions + Drop,
 > {
-    target: SessionTarget<'a, R, U, G, S, C, P, H>,
+    target: SessionTarget<'a, R, U, G, S>,
     alloc: Global,
     observer: &'a Observer<'a, R>,
     visitor: Visitor,
 }
 
-impl<
-    'a,
-    R: Wait + Clock,
-    U: LogicalUnits<P, H> + Drop,
-    G: Gate + Drop,
-    S: Sessions<C> + Drop,
-    C: Connection + Drop,
-    P: Pass,
-    H: Drop,
-> Model for LoggedTarget<'a, R, U, G, S, C, P, H> {
+impl<'a, R: Wait + Clock, U: LogicalUnits + Drop, G: Gate + Drop, S: Sessions + Drop> Model
+    for LoggedTarget<'a, R, U, G, S> {
     ghost use Rattle.portal.specs.Target.{TargetValue};
 
     ghost Value = { TargetValue };
@@ -180,22 +169,19 @@ impl<
     ghost view = { λ w. w.target };
 }
 
-impl<
+impl<'a, R: Wait + Clock, U: LogicalUnits + Drop, G: Gate + Drop, S: Sessions + Drop> LoggedTarget<
     'a,
-    R: Wait + Clock,
-    U: LogicalUnits<P, H> + Drop,
-    G: Gate + Drop,
-    S: Sessions<C> + Drop,
-    C: Connection + Drop,
-    P: Pass,
-    H: Drop,
-> LoggedTarget<'a, R, U, G, S, C, P, H> {
+    R,
+    U,
+    G,
+    S,
+> {
     /// The target of a session that has not begun, at which somebody looks.
     pub fn new(
         alloc: Global,
-        target: SessionTarget<'a, R, U, G, S, C, P, H>,
+        target: SessionTarget<'a, R, U, G, S>,
         observer: &'a Observer<'a, R>,
-    ) -> LoggedTarget<'a, R, U, G, S, C, P, H>
+    ) -> LoggedTarget<'a, R, U, G, S>
         ensures { result ≡ target.entry }
     {
         LoggedTarget {
@@ -207,7 +193,7 @@ impl<
     }
 
     /// Whose session it was, and what was seen of the units as it left them, or was refused there.
-    pub fn into_parts(self) -> (Visitor, Vec<H>)
+    pub fn into_parts(self) -> (Visitor, Vec<U::History>)
         requires { self.at ≡ [] }
         ensures { map U.seen result.1.items ≡ self.entry.seen }
     {
@@ -242,16 +228,8 @@ fn kind_of(kind: SessionType) -> event_log::SessionType {
     }
 }
 
-impl<
-    'a,
-    R: Wait + Clock,
-    U: LogicalUnits<P, H> + Drop,
-    G: Gate + Drop,
-    S: Sessions<C> + Drop,
-    C: Connection + Drop,
-    P: Pass,
-    H: Drop,
-> Target for LoggedTarget<'a, R, U, G, S, C, P, H> {
+impl<'a, R: Wait + Clock, U: LogicalUnits + Drop, G: Gate + Drop, S: Sessions + Drop> Target
+    for LoggedTarget<'a, R, U, G, S> {
     ghost use Rattle.portal.specs.Late.{late_of};
     ghost use Rattle.portal.specs.Target.{LeadsOn};
 

@@ -14,7 +14,7 @@ use crate::login_limit::LimitedSource;
 use crate::logins::{LoginPlace, Logins};
 use crate::observer::Observer;
 use crate::stacks::{STACK, Stacks};
-use crate::units::{LogicalUnits, Pass};
+use crate::units::LogicalUnits;
 use crate::wire::{KeptSource, ObservedSink};
 use crate::worker::serve_session;
 use event_log::{Event, Initiator, Log, Path, Resource, Why};
@@ -157,7 +157,7 @@ fn tell_end<R: Clock>(
 }
 
 // Serves the session of a connection of a host that is told this of the target, and tells how it ended.
-fn serve_as<R: Wait + Clock, U: LogicalUnits<P, H> + Drop, G: Gate + Drop, P: Pass, H: Drop>(
+fn serve_as<R: Wait + Clock, U: LogicalUnits + Drop, G: Gate + Drop>(
     rt: &R,
     alloc: Global,
     server: &Server<U, G>,
@@ -189,9 +189,6 @@ fn serve_as<R: Wait + Clock, U: LogicalUnits<P, H> + Drop, G: Gate + Drop, P: Pa
         U,
         G,
         Mutex<Table<Socket>>,
-        Socket,
-        P,
-        H,
         KeptSource<'_, R, LimitedSource<'_, R, Watched<&TcpStream>, Socket>>,
         ObservedSink<'_, R, Watched<&TcpStream>>,
     >(
@@ -217,7 +214,7 @@ fn serve_as<R: Wait + Clock, U: LogicalUnits<P, H> + Drop, G: Gate + Drop, P: Pa
 }
 
 // Serves the session of a connection.
-fn serve_socket<R: Wait + Clock, U: LogicalUnits<P, H> + Drop, G: Gate + Drop, P: Pass, H: Drop>(
+fn serve_socket<R: Wait + Clock, U: LogicalUnits + Drop, G: Gate + Drop>(
     rt: &R,
     alloc: Global,
     server: &Server<U, G>,
@@ -236,7 +233,7 @@ fn serve_socket<R: Wait + Clock, U: LogicalUnits<P, H> + Drop, G: Gate + Drop, P
         first: &first,
         second: &second,
     };
-    serve_as::<R, U, G, P, H>(rt, alloc, server, group, socket, place, path, &me)
+    serve_as(rt, alloc, server, group, socket, place, path, &me)
 }
 
 // Tells of a connection for which there was no memory.
@@ -245,7 +242,7 @@ fn tell_no_memory<R: Clock>(rt: &R, log: &Log, path: Path) {
 }
 
 // Serves the session of a connection with this number, and tells where there was no memory for it. Then the connection ends.
-fn work<R: Wait + Clock, U: LogicalUnits<P, H> + Drop, G: Gate + Drop, P: Pass, H: Drop>(
+fn work<R: Wait + Clock, U: LogicalUnits + Drop, G: Gate + Drop>(
     rt: &R,
     alloc: Global,
     server: &Server<U, G>,
@@ -261,7 +258,7 @@ fn work<R: Wait + Clock, U: LogicalUnits<P, H> + Drop, G: Gate + Drop, P: Pass, 
         server.log.tell(rt, &Event::NoKeepalive(path.from));
     }
     let place = LoginPlace::new(rt, &server.logins, number);
-    if serve_socket::<R, U, G, P, H>(rt, alloc, server, group, socket, &place, path).is_err() {
+    if serve_socket(rt, alloc, server, group, socket, &place, path).is_err() {
         tell_no_memory(rt, &server.log, path);
     }
     place.leave();
@@ -284,10 +281,8 @@ fn admit<R: Wait, U: Drop, G: Drop>(
 // Starts the worker of a connection. Where there is no memory or no thread for it, the connection ends.
 fn start<
     R: Threads + Wait + Clock + Clone + Drop + Send + 'static,
-    U: LogicalUnits<P, H> + Drop + Send + Sync + 'static,
+    U: LogicalUnits + Drop + Send + Sync + 'static,
     G: Gate + Drop + Send + Sync + 'static,
-    P: Pass + Send + 'static,
-    H: Drop + Send + 'static,
     S: Stacks,
 >(
     rt: &R,
@@ -296,12 +291,16 @@ fn start<
     group: Group,
     stream: TcpStream,
     stacks: &mut S,
-) -> io::Result<()> {
+) -> io::Result<()>
+where
+    U::Right: Send + 'static,
+    U::History: Send + 'static,
+{
     let socket = Arc::new(alloc, stream)?;
     let shared = Arc::try_clone(server)?;
     let mine = rt.clone()?;
     let number = admit(rt, server, &socket)?;
-    let work = move || work::<R, U, G, P, H>(&mine, alloc, &shared, group, &socket, number);
+    let work = move || work(&mine, alloc, &shared, group, &socket, number);
     let worker: io::Result<JoinHandle<()>> = Builder::new()
         .stack_size(stacks.next_stack())
         .spawn(rt, work);
@@ -371,10 +370,8 @@ fn tell_wanting<R: Clock>(rt: &R, log: &Log, wanting: Option<Resource>, is_told:
 /// descriptor, or by a peer that went away, is no end; nor is a connection for which there is no thread, which is closed.
 pub fn accept<
     R: Threads + Wait + Clock + Clone + Drop + Send + 'static,
-    U: LogicalUnits<P, H> + Drop + Send + Sync + 'static,
+    U: LogicalUnits + Drop + Send + Sync + 'static,
     G: Gate + Drop + Send + Sync + 'static,
-    P: Pass + Send + 'static,
-    H: Drop + Send + 'static,
     S: Stacks,
 >(
     rt: &R,
@@ -383,14 +380,16 @@ pub fn accept<
     server: &Arc<Server<U, G>, Global>,
     group: Group,
     stacks: &mut S,
-) {
+)
+where
+    U::Right: Send + 'static,
+    U::History: Send + 'static,
+{
     // What was wanting is told once, until a connection is served again.
     let mut is_told = false;
     for stream in listener.incoming() {
         let wanting = match stream {
-            Ok(stream) => wanting_of(start::<R, U, G, P, H, S>(
-                rt, alloc, server, group, stream, stacks,
-            )),
+            Ok(stream) => wanting_of(start(rt, alloc, server, group, stream, stacks)),
             Err(e) => match failed_accept(rt, e) {
                 NotAccepted::Stopped => return,
                 NotAccepted::GoneAway => continue,
@@ -404,10 +403,8 @@ pub fn accept<
 /// Starts the accept loop of a portal of a group in a thread of its own. The workers of its connections have these stacks.
 pub fn listen<
     R: Threads + Wait + Clock + Clone + Drop + Send + 'static,
-    U: LogicalUnits<P, H> + Drop + Send + Sync + 'static,
+    U: LogicalUnits + Drop + Send + Sync + 'static,
     G: Gate + Drop + Send + Sync + 'static,
-    P: Pass + Send + 'static,
-    H: Drop + Send + 'static,
     S: Stacks + Drop + Send + 'static,
 >(
     rt: &R,
@@ -416,13 +413,15 @@ pub fn listen<
     server: &Arc<Server<U, G>, Global>,
     group: Group,
     stacks: S,
-) -> io::Result<JoinHandle<()>> {
+) -> io::Result<JoinHandle<()>>
+where
+    U::Right: Send + 'static,
+    U::History: Send + 'static,
+{
     let server = Arc::try_clone(server)?;
     let mine = rt.clone()?;
     let mut stacks = stacks;
-    let work = move || {
-        accept::<R, U, G, P, H, S>(&mine, alloc, &listener, &server, group, &mut stacks)
-    };
+    let work = move || { accept(&mine, alloc, &listener, &server, group, &mut stacks) };
     Builder::new().stack_size(STACK).spawn(rt, work)
 }
 

@@ -9,7 +9,10 @@ use crate::live::{EnterFault, NewSession, Table};
 use std::sync::{Mutex, Wait};
 
 /// The table of the sessions that live at an array, which all its threads share.
-pub trait Sessions<C: Connection> {
+pub trait Sessions {
+    /// What a session runs over.
+    type Connection: Connection + Drop;
+
     /// What its calls have said of the sessions. Nothing else says it.
     ghost says: { Sayings };
 
@@ -18,9 +21,9 @@ pub trait Sessions<C: Connection> {
         &self,
         rt: &R,
         new: NewSession,
-        connection: C,
+        connection: Self::Connection,
     ) -> Result<(u64, u16), EnterFault>
-        requires unlimited { C.is_unlimited connection }
+        requires unlimited { Self.Connection.is_unlimited connection }
         ensures entered { IfOk result (λ r. says.entered (through new.port new.group) new.kind r.0 r.1) }
         ensures tsih { IfOk result (λ r. 0 < r.1) }
         ensures refused { IfErr result says.refused };
@@ -39,9 +42,12 @@ pub trait Sessions<C: Connection> {
 
 /// A table of sessions, as the thread has it that holds its lock. What its calls say is of the table before it and of the one behind it:
 /// nothing else says it.
-pub trait Living<C> {
+pub trait Living {
     ghost use Rattle.login.specs.declared.status.SessionType.{SessionType};
     ghost use Rattle.portal.specs.declared.live.EnterFault.{EnterFault};
+
+    /// What a session runs over.
+    type Connection: Connection + Drop;
 
     /// A session of this nexus and kind began to live, with this number and this TSIH.
     ghost entered: { Self → Nexus → SessionType → ℕ → ℕ → Self → Type 0 };
@@ -55,7 +61,11 @@ pub trait Living<C> {
     /// The session with this number is over.
     ghost left: { Self → ℕ → Self → Type 0 };
 
-    fn enter(&mut self, new: NewSession, connection: C) -> Result<(u64, u16), EnterFault>
+    fn enter(
+        &mut self,
+        new: NewSession,
+        connection: Self::Connection,
+    ) -> Result<(u64, u16), EnterFault>
         ensures entered { IfOk result (λ r. entered self.old (through new.port new.group) new.kind r.0 r.1 self.new) }
         ensures tsih { IfOk result (λ r. 0 < r.1) }
         ensures refused { IfErr result (refused self.old) };
@@ -69,9 +79,11 @@ pub trait Living<C> {
     fn has(&self, number: u64) -> bool;
 }
 
-impl<C: Connection + Drop> Living<C> for Table<C> {
+impl<C: Connection + Drop> Living for Table<C> {
     ghost use Rattle.portal.specs.Sessions.{entered_in, lived_in, left_in};
     ghost use Rattle.portal.specs.Live.{IsCauseOf};
+
+    type Connection = C;
 
     ghost entered = { entered_in };
 
@@ -98,8 +110,10 @@ impl<C: Connection + Drop> Living<C> for Table<C> {
     }
 }
 
-impl<C: Connection, T: Living<C>> Sessions<C> for Mutex<T> {
+impl<T: Living> Sessions for Mutex<T> {
     ghost use Rattle.portal.specs.Sessions.{of_table};
+
+    type Connection = T::Connection;
 
     ghost says = { of_table T.entered T.refused T.lived T.left };
 
@@ -107,7 +121,7 @@ impl<C: Connection, T: Living<C>> Sessions<C> for Mutex<T> {
         &self,
         rt: &R,
         new: NewSession,
-        connection: C,
+        connection: T::Connection,
     ) -> Result<(u64, u16), EnterFault> {
         self.lock(rt).enter(new, connection)
     }

@@ -62,16 +62,7 @@ impl From<EnterFault> for BeginFault {
 /// What a session's worker asks: it reaches the units by the session's passes, which it has from the session's beginning to
 /// its end. What was seen of the units then stays.
 #[derive(Drop)]
-pub struct SessionTarget<
-    'a,
-    R: Wait,
-    U: LogicalUnits<P, H> + Drop,
-    G: Gate + Drop,
-    S: Sessions<C> + Drop,
-    C: Connection + Drop,
-    P: Pass,
-    H: Drop,
-> {
+pub struct SessionTarget<'a, R: Wait, U: LogicalUnits + Drop, G: Gate + Drop, S: Sessions + Drop> {
     rt: &'a R,
     alloc: Global,
     device: &'a TargetDevice<U, G, S>,
@@ -80,27 +71,19 @@ pub struct SessionTarget<
     // The group of the portals by which the initiator came.
     group: Group,
     // What the session runs over, until it is asked to begin.
-    connection: Option<C>,
+    connection: Option<S::Connection>,
     // The number of the session that has begun, until it is over.
     number: Option<u64>,
     // Whether the session has begun.
     begun: bool,
     // The session at each unit in order.
-    at: Vec<UnitSession<P>>,
+    at: Vec<UnitSession<U::Right>>,
     // What was seen of units that it has left, or at which it was refused. There is room for the others.
-    seen: Vec<H>,
+    seen: Vec<U::History>,
 }
 
-impl<
-    'a,
-    R: Wait,
-    U: LogicalUnits<P, H> + Drop,
-    G: Gate + Drop,
-    S: Sessions<C> + Drop,
-    C: Connection + Drop,
-    P: Pass,
-    H: Drop,
-> Model for SessionTarget<'a, R, U, G, S, C, P, H> {
+impl<'a, R: Wait, U: LogicalUnits + Drop, G: Gate + Drop, S: Sessions + Drop> Model
+    for SessionTarget<'a, R, U, G, S> {
     ghost use Rattle.std.specs.Prelude.{All, ◌≡◌, ◌+◌, ◌<◌, ◌≤◌, [], false, IfSome, length, map, vec_capacity};
     ghost use Rattle.portal.specs.Target.{TargetValue, is_taken};
 
@@ -137,14 +120,14 @@ fn port_of(alloc: Global, name: &[u8], isid: u64) -> Result<PortName, BeginFault
 }
 
 // Attaches a session to a unit. Refused, this was seen of a unit that is full, or there was no memory.
-fn attach_to<R: Wait, U: LogicalUnits<P, H>, P: Pass, H: Drop>(
+fn attach_to<R: Wait, U: LogicalUnits>(
     rt: &R,
     alloc: Global,
     units: &U,
     unit: u8,
     port: &PortName,
     group: Group,
-) -> Result<UnitSession<P>, Option<H>>
+) -> Result<UnitSession<U::Right>, Option<U::History>>
     requires { unit < U.unit_count units.now }
     ensures attached { IfOk result (IsAttachedTo U.claims U.opening (through port.now group) unit) }
     ensures full { IfErr result (λ full. IfSome full (λ s. IsFullAt U.claims U.opening (through port.now group) unit (U.seen s))) }
@@ -159,11 +142,11 @@ fn attach_to<R: Wait, U: LogicalUnits<P, H>, P: Pass, H: Drop>(
 }
 
 // Ends a session at a unit: what was seen there.
-fn retire<R: Wait, U: LogicalUnits<P, H>, P: Pass, H: Drop>(
+fn retire<R: Wait, U: LogicalUnits>(
     rt: &R,
     units: &U,
-    attached: UnitSession<P>,
-) -> H
+    attached: UnitSession<U::Right>,
+) -> U::History
     requires { attached.place < U.unit_count units.now }
     ensures { IsOverAt U.claims U.opening attached (U.seen result) }
 {
@@ -171,11 +154,11 @@ fn retire<R: Wait, U: LogicalUnits<P, H>, P: Pass, H: Drop>(
 }
 
 // Ends a session at each of these units, and keeps what was seen there.
-fn retire_all<R: Wait, U: LogicalUnits<P, H>, P: Pass, H: Drop>(
+fn retire_all<R: Wait, U: LogicalUnits>(
     rt: &R,
     units: &U,
-    attached: &mut Vec<UnitSession<P>>,
-    seen: &mut Vec<H>,
+    attached: &mut Vec<UnitSession<U::Right>>,
+    seen: &mut Vec<U::History>,
 )
     requires placed { All (λ a. a.place < U.unit_count units.now) attached.old.items }
     requires room { length seen.old.items + length attached.old.items ≤ vec_capacity seen.old }
@@ -209,15 +192,15 @@ fn refused_at<S: Drop>(unit: u8, full: Option<S>, seen: &mut Vec<S>) -> BeginFau
 // Attaches a normal session to all units in order, in a turn, which is held from before the first unit to behind the last. Where one
 // refuses, it is over at those before. What was seen then is kept.
 #[tactic(auto, using(crate::specs::Turns::an_attach_says))]
-fn attach_in_turn<R: Wait, U: LogicalUnits<P, H>, P: Pass, H: Drop>(
+fn attach_in_turn<R: Wait, U: LogicalUnits>(
     turn: &mut Turn,
     rt: &R,
     alloc: Global,
     units: &U,
     port: &PortName,
     group: Group,
-    attached: &mut Vec<UnitSession<P>>,
-    seen: &mut Vec<H>,
+    attached: &mut Vec<UnitSession<U::Right>>,
+    seen: &mut Vec<U::History>,
 ) -> Result<(), BeginFault>
     requires none { attached.old.items ≡ [] }
     requires room { length seen.old.items + U.unit_count units.now ≤ vec_capacity seen.old }
@@ -249,11 +232,11 @@ fn attach_in_turn<R: Wait, U: LogicalUnits<P, H>, P: Pass, H: Drop>(
 }
 
 // A session begins to live: its number and its TSIH.
-fn enter<R: Wait, S: Sessions<C>, C: Connection>(
+fn enter<R: Wait, S: Sessions>(
     rt: &R,
     sessions: &S,
     new: NewSession,
-    connection: C,
+    connection: S::Connection,
 ) -> Result<(u64, u16), EnterFault>
     ensures entered { IfOk result (λ r. S.says.entered (through new.port new.group) new.kind r.0 r.1) }
     ensures tsih { IfOk result (λ r. 0 < r.1) }
@@ -264,12 +247,12 @@ fn enter<R: Wait, S: Sessions<C>, C: Connection>(
 }
 
 // The same of a normal session which was attached to these units in this turn, that has not ended since.
-fn enter_in_turn<R: Wait, S: Sessions<C>, C: Connection, P: Pass>(
+fn enter_in_turn<R: Wait, S: Sessions, P: Pass>(
     _turn: &mut Turn,
     rt: &R,
     sessions: &S,
     new: NewSession,
-    connection: C,
+    connection: S::Connection,
     _at: &Vec<UnitSession<P>>,
 ) -> Result<(u64, u16), EnterFault>
     requires turn { were_attached _turn.old _at.now.items }
@@ -284,14 +267,7 @@ fn enter_in_turn<R: Wait, S: Sessions<C>, C: Connection, P: Pass>(
 // and would end a session of its port that lives: so it is refused where its connection is over by then. Where a unit or the table
 // refuses it, it is over at all units. What was seen then is kept.
 #[tactic(auto, using(crate::proofs::Refusing::too_late))]
-fn attach_and_enter<
-    R: Wait,
-    U: LogicalUnits<P, H>,
-    S: Sessions<C>,
-    C: Connection + Drop,
-    P: Pass,
-    H: Drop,
->(
+fn attach_and_enter<R: Wait, U: LogicalUnits, S: Sessions>(
     turn: &mut Turn,
     rt: &R,
     alloc: Global,
@@ -299,9 +275,9 @@ fn attach_and_enter<
     sessions: &S,
     port: PortName,
     group: Group,
-    connection: C,
-    at: &mut Vec<UnitSession<P>>,
-    seen: &mut Vec<H>,
+    connection: S::Connection,
+    at: &mut Vec<UnitSession<U::Right>>,
+    seen: &mut Vec<U::History>,
 ) -> Result<(u64, u16), BeginFault>
     requires none { at.old.items ≡ [] }
     requires room { length seen.old.items + U.unit_count units.now ≤ vec_capacity seen.old }
@@ -347,24 +323,21 @@ fn turn_away(alloc: Global, asked: &Asked) -> TargetAnswer
     }
 }
 
-impl<
+impl<'a, R: Wait, U: LogicalUnits + Drop, G: Gate + Drop, S: Sessions + Drop> SessionTarget<
     'a,
-    R: Wait,
-    U: LogicalUnits<P, H> + Drop,
-    G: Gate + Drop,
-    S: Sessions<C> + Drop,
-    C: Connection + Drop,
-    P: Pass,
-    H: Drop,
-> SessionTarget<'a, R, U, G, S, C, P, H> {
+    R,
+    U,
+    G,
+    S,
+> {
     /// The target of a session that has not begun, which comes over this connection by the portals of this group.
     pub fn new(
         rt: &'a R,
         alloc: Global,
         device: &'a TargetDevice<U, G, S>,
         group: Group,
-        connection: C,
-    ) -> SessionTarget<'a, R, U, G, S, C, P, H>
+        connection: S::Connection,
+    ) -> SessionTarget<'a, R, U, G, S>
         ensures { result ≡ unbegun (U.unit_count device.now.units) group }
     {
         SessionTarget {
@@ -382,7 +355,7 @@ impl<
     }
 
     // Attaches a normal session to all units; then it begins to live.
-    fn join(&mut self, port: PortName, connection: C) -> Result<u16, BeginFault>
+    fn join(&mut self, port: PortName, connection: S::Connection) -> Result<u16, BeginFault>
         requires fresh { (self.old.begun ≡ false) × (self.old.at ≡ []) × (self.old.seen ≡ []) }
         requires asked { self.old.asked ≡ true }
         requires name { IsPortName port }
@@ -416,7 +389,7 @@ impl<
     }
 
     // A discovery session, which is attached to no unit, begins to live.
-    fn join_none(&mut self, port: PortName, connection: C) -> Result<u16, BeginFault>
+    fn join_none(&mut self, port: PortName, connection: S::Connection) -> Result<u16, BeginFault>
         requires fresh { (self.old.begun ≡ false) × (self.old.at ≡ []) × (self.old.seen ≡ []) }
         requires asked { self.old.asked ≡ true }
         requires name { IsPortName port }
@@ -462,7 +435,7 @@ impl<
     }
 
     /// What was seen of the units as the session left them, or was refused there. It is over at each.
-    pub fn into_seen(self) -> Vec<H>
+    pub fn into_seen(self) -> Vec<U::History>
         requires { self.at ≡ [] }
         ensures { map U.seen result.items ≡ self.entry.seen }
     {
@@ -502,16 +475,8 @@ impl<
     }
 }
 
-impl<
-    'a,
-    R: Wait,
-    U: LogicalUnits<P, H> + Drop,
-    G: Gate + Drop,
-    S: Sessions<C> + Drop,
-    C: Connection + Drop,
-    P: Pass,
-    H: Drop,
-> Target for SessionTarget<'a, R, U, G, S, C, P, H> {
+impl<'a, R: Wait, U: LogicalUnits + Drop, G: Gate + Drop, S: Sessions + Drop> Target
+    for SessionTarget<'a, R, U, G, S> {
     ghost use Rattle.portal.specs.Target.{LeadsOn};
 
     ghost leads = { LeadsOn U.claims S.says (late_of G.is_late G.lasts) U.opening };

@@ -77,20 +77,20 @@ fn believed_behind(by_group: Group, end: &Result<Reply, Unserved>) -> Group
 }
 
 // Submits a command as it was asked; or without its flush, where that is left to the gate, and comes behind it.
-fn call<R: Wait, U: LogicalUnits<P, H>, P: Pass, H: Drop, G: Gate>(
+fn call<R: Wait, U: LogicalUnits, G: Gate>(
     rt: &R,
     room: ReplyMemory,
     units: &U,
     gate: &G,
-    pass: P,
+    pass: U::Right,
     by_group: Group,
     asked: &Asked,
     bytes: &[u8],
-) -> (P, Result<Reply, Unserved>)
-    requires { (P.held pass).place < U.unit_count units.now }
-    ensures place { (P.held result.0).place ≡ (P.held pass).place }
-    ensures end { IsCalled U.claims (late_of G.is_late G.lasts) U.opening (P.held pass)
-        by_group asked.now bytes.now result.1 (P.held result.0) }
+) -> (U::Right, Result<Reply, Unserved>)
+    requires { (U.Right.held pass).place < U.unit_count units.now }
+    ensures place { (U.Right.held result.0).place ≡ (U.Right.held pass).place }
+    ensures end { IsCalled U.claims (late_of G.is_late G.lasts) U.opening (U.Right.held pass)
+        by_group asked.now bytes.now result.1 (U.Right.held result.0) }
 {
     let alloc = room.alloc();
     let unflushed = without_flush(asked);
@@ -137,7 +137,7 @@ impl<P: Pass> UnitSession<P> {
     }
 
     // Submits a command once, to the group that is believed to own the unit.
-    fn submit<R: Wait, U: LogicalUnits<P, H>, H: Drop, G: Gate>(
+    fn submit<R: Wait, U: LogicalUnits<Right = P>, G: Gate>(
         &mut self,
         rt: &R,
         room: ReplyMemory,
@@ -164,7 +164,7 @@ impl<P: Pass> UnitSession<P> {
     }
 
     /// Serves a command of the session: once more where the unit has moved, with memory of its own for the reply.
-    pub(crate) fn serve<R: Wait, U: LogicalUnits<P, H>, H: Drop, G: Gate>(
+    pub(crate) fn serve<R: Wait, U: LogicalUnits<Right = P>, G: Gate>(
         &mut self,
         rt: &R,
         rooms: &Rooms<'_>,
@@ -185,11 +185,7 @@ impl<P: Pass> UnitSession<P> {
     }
 
     /// Resets the unit for the session.
-    pub fn reset<R: Wait, U: LogicalUnits<P, H>, H: Drop>(
-        &mut self,
-        rt: &R,
-        units: &U,
-    ) -> ResetAnswer
+    pub fn reset<R: Wait, U: LogicalUnits<Right = P>>(&mut self, rt: &R, units: &U) -> ResetAnswer
         requires { self.old.place < U.unit_count units.now }
         ensures { IsResetAnswer U.claims U.opening self.old result self.new }
     {

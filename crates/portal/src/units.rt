@@ -39,8 +39,13 @@ pub trait Pass {
 }
 
 /// The units of an array, which all threads share. Each has one history, and what a session does at a unit is an entry there.
-/// What was seen of the history of a unit is an `H`: nothing but a call of the units gives one.
-pub trait LogicalUnits<P: Pass, H: Drop> {
+pub trait LogicalUnits {
+    /// The right to add a session's entries to the history of a unit.
+    type Right: Pass;
+
+    /// What was seen of the history of a unit: nothing but a call of the units gives one.
+    type History: Drop;
+
     /// How many units there are, from unit 0 on.
     ghost unit_count: { Self → ℕ };
 
@@ -51,22 +56,28 @@ pub trait LogicalUnits<P: Pass, H: Drop> {
     ghost opening: { ℕ → UnitState };
 
     /// The place of the unit, and the entries that were seen.
-    ghost seen: { H → ℕ × List Entry };
+    ghost seen: { Self.History → ℕ × List Entry };
 
     fn count(&self) -> u8
         ensures { result ≡ unit_count self.now };
 
     /// All that is seen of one unit stands in one history: of two such, one begins the other. It does nothing.
-    fn in_one_history(one: &H, other: &H)
+    fn in_one_history(one: &Self::History, other: &Self::History)
         requires { (seen other.now).0 ≡ (seen one.now).0 }
         ensures { IsPrefix (seen one.now).1 (seen other.now).1 ⊎ IsPrefix (seen other.now).1 (seen one.now).1 };
 
     /// Attaches a session of this port through this group to a unit; one that its nexus had there ends. Refused, there is no room
     /// for it: what was seen of the unit shows that.
-    fn attach<R: Wait>(&self, rt: &R, unit: u8, port: PortName, group: Group) -> Result<P, H>
+    fn attach<R: Wait>(
+        &self,
+        rt: &R,
+        unit: u8,
+        port: PortName,
+        group: Group,
+    ) -> Result<Self::Right, Self::History>
         requires unit { unit < unit_count self.now }
-        ensures place { IfOk result (λ p. (P.held p).place ≡ unit) }
-        ensures attached { IfOk result (λ p. HasAttached claims.contents (opening unit) (through port group) (P.held p).pass) }
+        ensures place { IfOk result (λ p. (Self.Right.held p).place ≡ unit) }
+        ensures attached { IfOk result (λ p. HasAttached claims.contents (opening unit) (through port group) (Self.Right.held p).pass) }
         ensures full { IfErr result (λ s. ((seen s).0 ≡ unit)
             × HasNoRoom claims.contents (opening unit) (through port group) (seen s).1) };
 
@@ -75,25 +86,26 @@ pub trait LogicalUnits<P: Pass, H: Drop> {
         &self,
         rt: &R,
         room: ReplyMemory,
-        pass: P,
+        pass: Self::Right,
         by_group: Group,
         asked: &Asked,
         bytes: &[u8],
-    ) -> (P, Result<Reply, Unserved>)
-        requires unit { (P.held pass).place < unit_count self.now }
-        ensures place { (P.held result.0).place ≡ (P.held pass).place }
-        ensures end { IsSubmitted claims (opening (P.held pass).place) (P.held pass).pass by_group asked.now bytes.now result.1
-            (P.held result.0).pass };
+    ) -> (Self::Right, Result<Reply, Unserved>)
+        requires unit { (Self.Right.held pass).place < unit_count self.now }
+        ensures place { (Self.Right.held result.0).place ≡ (Self.Right.held pass).place }
+        ensures end { IsSubmitted claims (opening (Self.Right.held pass).place) (Self.Right.held pass).pass by_group asked.now
+            bytes.now result.1 (Self.Right.held result.0).pass };
 
     /// Resets the unit for the session. False: the session is gone.
-    fn reset<R: Wait>(&self, rt: &R, pass: P) -> (P, bool)
-        requires unit { (P.held pass).place < unit_count self.now }
-        ensures place { (P.held result.0).place ≡ (P.held pass).place }
-        ensures end { IsResetBy claims (opening (P.held pass).place) (P.held pass).pass result.1 (P.held result.0).pass };
+    fn reset<R: Wait>(&self, rt: &R, pass: Self::Right) -> (Self::Right, bool)
+        requires unit { (Self.Right.held pass).place < unit_count self.now }
+        ensures place { (Self.Right.held result.0).place ≡ (Self.Right.held pass).place }
+        ensures end { IsResetBy claims (opening (Self.Right.held pass).place) (Self.Right.held pass).pass result.1
+            (Self.Right.held result.0).pass };
 
     /// Ends the session at the unit: what was seen there shows that it is over.
-    fn retire<R: Wait>(&self, rt: &R, pass: P) -> H
-        requires unit { (P.held pass).place < unit_count self.now }
-        ensures place { (seen result).0 ≡ (P.held pass).place }
-        ensures end { IsRetired claims (opening (P.held pass).place) (P.held pass).pass (seen result).1 };
+    fn retire<R: Wait>(&self, rt: &R, pass: Self::Right) -> Self::History
+        requires unit { (Self.Right.held pass).place < unit_count self.now }
+        ensures place { (seen result).0 ≡ (Self.Right.held pass).place }
+        ensures end { IsRetired claims (opening (Self.Right.held pass).place) (Self.Right.held pass).pass (seen result).1 };
 }

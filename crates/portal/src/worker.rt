@@ -13,7 +13,7 @@ use crate::logged_target::{LoggedTarget, Visitor};
 use crate::observer::Observer;
 use crate::sessions::Sessions;
 use crate::target::SessionTarget;
-use crate::units::{LogicalUnits, Pass};
+use crate::units::LogicalUnits;
 use scsi_types::{Group, NoMemory};
 use session::{End, Identity, Opening, Sink, Source, serve_stream};
 use std::alloc::Global;
@@ -27,12 +27,9 @@ use std::time::Clock;
 /// connection has to end where its initiator is silent before its login is over.
 pub fn serve_session<
     R: Wait + Clock,
-    U: LogicalUnits<P, H> + Drop,
+    U: LogicalUnits + Drop,
     G: Gate + Drop,
-    T: Sessions<C> + Drop,
-    C: Connection + Drop,
-    P: Pass,
-    H: Drop,
+    T: Sessions + Drop,
     S: Source,
     K: Sink,
 >(
@@ -40,20 +37,20 @@ pub fn serve_session<
     alloc: Global,
     device: &TargetDevice<U, G, T>,
     group: Group,
-    connection: C,
+    connection: T::Connection,
     source: &mut S,
     sink: &mut K,
     me: &Identity<'_>,
     observer: &Observer<'_, R>,
-) -> Result<(End, Visitor, Vec<H>), NoMemory>
-    requires silence { C.is_limited connection login_silence }
+) -> Result<(End, Visitor, Vec<U::History>), NoMemory>
+    requires silence { T.Connection.is_limited connection login_silence }
     ensures served { IfOk result (λ r. IsSession U.claims T.says (late_of G.is_late G.lasts) U.opening (U.unit_count device.now.units)
         group me.now (S.left source.old) (S.left source.new) (K.held sink.old) (K.held sink.new) r.0 (map U.seen r.2.items)) }
     ensures input_failed { IfOk result (λ r. IsFailureOf InputFailed (S.failures source.old) (S.failures source.new) r.0) }
     ensures output_failed { IfOk result (λ r. IsFailureOf OutputFailed (K.failures sink.old) (K.failures sink.new) r.0) }
     ensures no_memory { OnErr result ((source.new ≡ source.old) × (sink.new ≡ sink.old)) }
 {
-    let target = SessionTarget::<R, U, G, T, C, P, H>::new(rt, alloc, device, group, connection);
+    let target = SessionTarget::<R, U, G, T>::new(rt, alloc, device, group, connection);
     let mut target = LoggedTarget::new(alloc, target, observer);
     let end = serve_stream(
         alloc,

@@ -8,7 +8,7 @@ use crate::doors::Doors;
 use crate::no_room::NoRoom;
 use crate::scene::{Portals, Scene};
 use crate::stage::Stage;
-use crate::units::{Faults, NO_FAULTS, in_memory, opened};
+use crate::units::{Faults, in_memory, opened};
 use array_units::Units;
 use block_file::{Blocks, FusedBlocks, FusedOpener, KeepOpener, Opener};
 use event_log::Log;
@@ -24,7 +24,7 @@ use std::thread::{JoinHandle, Threads};
 use std::time::Clock;
 use test_connections::Host;
 use test_memory::Latch;
-use unit_history::{LegalHistory, NewUnit, Opened, Pass};
+use unit_history::{NewUnit, Opened};
 use unit_sequence::Namings;
 
 /// What the hosts of an array do, of one unit or of two, and where it listens: at this address, and at these ports of its two
@@ -44,10 +44,25 @@ pub struct Script<'a> {
 }
 
 impl<'a> Script<'a> {
-    /// That of a part of a table: its name, and behind it the lines.
+    /// That of a part of a table: its name and, behind semicolons, what is not as usual; and then the lines.
     pub fn of(part: &'a str) -> Script<'a> {
-        let (name, text) = part.trim_start().split_once('\n').unwrap_or((part, ""));
-        Script::new(name, text)
+        let (head, text) = part.trim_start().split_once('\n').unwrap_or((part, ""));
+        let (name, words) = head.split_once("; ").unwrap_or((head, ""));
+        let mut script = Script::new(name, text);
+        script.take(words);
+        script
+    }
+
+    // Takes what is not as usual. A word that says nothing leaves no lines, which a stage refuses.
+    fn take(&mut self, words: &str) {
+        match words {
+            "" => {}
+            "one unit" => self.is_alone = true,
+            "no open" => self.opens = 0,
+            "no thread for two" => self.refused = 2,
+            "accepts that fail" => self.is_hasty = true,
+            _ => self.text = "",
+        }
     }
 
     /// At two ports of the loopback that are free, and of two units.
@@ -76,12 +91,12 @@ impl<'a> Script<'a> {
 }
 
 /// An array that fails so while hosts perform a script, and, started again, does not while they perform another, which stands
-/// behind the first and an empty line. By its name its file is found.
+/// behind the first and an empty line.
 #[derive(Clone, Copy)]
 pub struct Story<'a> {
     pub name: &'a str,
-    pub faults: Faults,
-    pub text: &'a str,
+    pub fault: &'a str,
+    pub scripts: &'a str,
 }
 
 /// A portal that is served.
@@ -126,14 +141,7 @@ fn serve<
         &mut SmallStacks,
     ).expect(rt, "lanes");
     let stop = Stop::of(&listener).expect(rt, "a stop");
-    let worker = listen::<
-        R,
-        Controllers<B, F, O, N>,
-        Doors<R>,
-        Pass<B, F, O, N>,
-        LegalHistory<B, F, O, N>,
-        NoRoom,
-    >(rt, alloc, listener, server, group, stacks).expect(rt, "a worker");
+    let worker = listen(rt, alloc, listener, server, group, stacks).expect(rt, "a worker");
     Served { stop, worker }
 }
 
@@ -313,14 +321,11 @@ impl<
         let _ended = self.perform::<Brand, _, _, _>(units, &disk, script);
     }
 
-    /// Hosts perform each script of a table, before two units or before one, and what they send goes out in pieces of so many bytes.
-    pub fn run_all(&self, table: &str, is_alone: bool, piece: usize) {
+    /// Hosts perform each script of a table, and what they send goes out in pieces of so many bytes.
+    pub fn run_all(&self, table: &str, piece: usize) {
         for part in table.split("\n\n") {
-            let script = Script {
-                is_alone,
-                piece,
-                ..Script::of(part)
-            };
+            let mut script = Script::of(part);
+            script.piece = piece;
             self.run(&script);
         }
     }
@@ -351,14 +356,19 @@ impl<
         blocks: B,
         file: F,
     ) {
-        let (before, after) = story.text.split_once("\n\n").expect(self.rt, story.name);
+        let (before, after) = story.scripts.split_once("\n\n").expect(self.rt, story.name);
         let before = Script::new(story.name, before);
-        let (ports, hosts) = self.serve_failing(first, first_file, story.faults, &before);
+        let (ports, hosts) = self.serve_failing(
+            first,
+            first_file,
+            Faults::of(story.fault),
+            &before,
+        );
         let again = Script {
             ports,
             ..Script::new(story.name, after)
         };
-        let _ended = self.serve_failing(blocks, file, NO_FAULTS, &again);
+        let _ended = self.serve_failing(blocks, file, Faults::of(""), &again);
         drop(hosts);
     }
 }
