@@ -1,34 +1,40 @@
 //! An array as its tests see it: units that threads share, a desk, and the sessions of hosts. No type of a unit stands here, so
 //! that tests see plain values alone, and cost little to prove.
-use crate::script::Asks;
-use scsi_types::{Command, Group, Sense};
+use scsi_types::{Command, Group};
 use status::Row;
 use std::test::Fail;
-use unit_state::MoveFault;
 
-/// What a command came to.
-#[derive(Clone, Copy, PartialEq, Eq)]
-pub enum End {
-    Good,
-    Check(Sense),
-    Conflict,
-    Gone,
-    Moved(Group),
-    NoMemory,
-    /// The desk is full.
-    Full,
-    /// The desk is closed.
-    Closed,
-    /// It waits in the queue of the desk, or for its lane.
-    Waits,
-    /// There is no session that could send it, or no command that waits.
-    Nobody,
+/// What a command or a move came to: a word, and a number behind it.
+#[derive(Clone, Copy)]
+pub struct End {
+    pub word: &'static str,
+    pub number: u64,
 }
 
-/// What the first command of a session comes to.
-pub const TOLD_OF_POWER_ON: End = End::Check(Sense::POWER_ON);
+/// An end of this word alone.
+pub fn ended(word: &'static str) -> End {
+    End { word, number: 0 }
+}
+
+/// A sense key, an additional sense code and a qualifier as one number of six digits in hexadecimal.
+pub fn sense_number(key: u8, asc: u8, ascq: u8) -> u64 {
+    u64::from(u32::from_be_bytes([0, key, asc, ascq]))
+}
+
+/// The number of a group.
+pub fn number_of(group: Group) -> u64 {
+    match group {
+        Group::One => 1,
+        Group::Two => 2,
+    }
+}
 
 /// Units that threads share, a desk of the first controller, and the sessions S of hosts, or what is left of them.
+///
+/// A command of a host ends `good`, `check` with the number of its sense, `conflict`, `gone`, `moved` to the group of a number, with
+/// `memory` that is wanting, at a desk that is `full` or `closed`, and `waits` in its queue. `nobody`: there is no session that could send
+/// it, or no command that waits. A unit that was to move is `done`, or stays with a `list`, a `length`, blocks that are `unopened`, or
+/// `gone`.
 pub trait Array<S> {
     /// The host of this ISID attaches to a unit by a group. None: there is no such unit, no room for a session, or no memory.
     fn attach(&self, place: usize, isid: u32, group: Group) -> Option<S>;
@@ -39,8 +45,8 @@ pub trait Array<S> {
     /// How it ends by way of the desk, as the program has it served.
     fn ask_at_desk(&self, host: &mut S, command: Command, bytes: &[u8]) -> End;
 
-    /// Hands in what a script asks for at the desk, in whose queue it waits then.
-    fn hand_in(&self, host: &mut S, asks: Asks) -> End;
+    /// Hands it in at the desk, in whose queue it waits then.
+    fn hand_in(&self, host: &mut S, command: Command, bytes: &'static [u8]) -> End;
 
     /// Waits until a lane has served it.
     fn collect(&self, host: &mut S) -> End;
@@ -63,14 +69,14 @@ pub trait Array<S> {
     /// What the board of a unit shows.
     fn row(&self, place: usize) -> Option<Row>;
 
-    /// The unit at a place moves by this list of SET TARGET PORT GROUPS, or stays. None: there is no such unit.
-    fn move_by(&self, place: usize, list: &[u8]) -> Option<Result<(), MoveFault>>;
+    /// The unit at a place moves by this list of SET TARGET PORT GROUPS, or stays. `nobody`: there is no such unit.
+    fn move_by(&self, place: usize, list: &[u8]) -> End;
 
-    /// The controller of a group goes down, or the first unit that does not move is told.
-    fn take_down(&self, group: Group) -> Result<(), (usize, MoveFault)>;
+    /// The controller of a group goes down, or the first unit that does not move is told: its place is the number.
+    fn take_down(&self, group: Group) -> End;
 
-    /// A lane takes the first job, which is one of this unit, and serves it. None: the desk is closed, and no job is left.
-    fn serve_first(&self) -> Option<usize>;
+    /// A lane takes the first job and serves it: `job`, with the place of its unit. `no-job`: the desk is closed, and no job is left.
+    fn serve_first(&self) -> End;
 
     /// It serves the first job as the program's lanes do: whether there was one.
     fn serve_next(&self) -> bool;
@@ -84,23 +90,13 @@ pub fn want(holds: bool, what: &'static str) -> Result<(), Fail> {
     if holds { Ok(()) } else { Err(Fail::from(what)) }
 }
 
-/// How many entries the board of a unit shows, or 0.
-pub fn entries<S, A: Array<S>>(array: &A, place: usize) -> u64 {
-    match array.row(place) {
-        Some(row) => row.entries,
-        None => 0,
+/// A host of unit 0, which was attached by the first group and has been told of the power.
+pub fn attached<S: Drop, A: Array<S>>(array: &A, isid: u32) -> Option<S> {
+    let mut host = array.attach(0, isid, Group::One)?;
+    let told = array.ask(&mut host, Group::One, Command::TestUnitReady, &[]);
+    if told.word == "check" && told.number == 0x062900 {
+        Some(host)
+    } else {
+        None
     }
-}
-
-/// A host attaches to a unit by the first group.
-pub fn attached<S, A: Array<S>>(array: &A, place: usize, isid: u32) -> Result<S, Fail> {
-    match array.attach(place, isid, Group::One) {
-        Some(host) => Ok(host),
-        None => Err(Fail::from("room for a session")),
-    }
-}
-
-/// How a TEST UNIT READY ends.
-pub fn test<S, A: Array<S>>(array: &A, host: &mut S, by_group: Group) -> End {
-    array.ask(host, by_group, Command::TestUnitReady, &[])
 }

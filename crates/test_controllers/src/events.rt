@@ -3,7 +3,6 @@
 mod full;
 mod late;
 mod moves;
-mod rows;
 mod run;
 mod sessions;
 mod worlds;

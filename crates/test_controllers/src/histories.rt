@@ -1,4 +1,3 @@
-//! Tests of units that threads share: what the board shows of a history, and what two threads find that use one unit.
+//! Tests of units that threads share: what the board shows of a history, and what threads find that use one unit.
 mod readers;
-pub mod sessions;
 pub mod threads;

@@ -1,13 +1,8 @@
 //! A worker and a lane at one desk.
-use crate::any_array::{Array, End, want};
+use crate::any_array::{Array, want};
 use crate::runs::run;
-use crate::script::Asks::{Read, Set, Test, Write};
-use crate::script::Deed::{AtDesk, Attach, Close, Collect, HandIn, ServeOwn};
-use crate::script::Told::{Done, Ends};
-use crate::script::{GOOD, Line, POWER_ON, WAITS, WRITTEN};
 use crate::stage::is_performed;
 use crate::tales::Tale;
-use scsi_types::Group::{One, Two};
 use std::alloc::Global;
 use std::sync::Wait;
 use std::test::*;
@@ -16,30 +11,30 @@ use std::thread::{Threads, join};
 // What the worker does: a write that a lane serves, and a read of the same block by another session, which serves it itself
 // unless the lane was first. Then jobs of both units at once, of which group 2 owns the second. At last unit 0 moves to group 2, so
 // that this desk's next command of it is told who owns it.
-fn what_is_done() -> &'static [Line] {
-    &[
-        Line(Attach(0, One), Done),
-        Line(HandIn(0, Test), WAITS),
-        Line(Collect(0), POWER_ON),
-        Line(HandIn(0, Write), WAITS),
-        Line(Collect(0), GOOD),
-        Line(Attach(0, One), Done),
-        Line(AtDesk(1, Test), POWER_ON),
-        Line(AtDesk(1, Read), WRITTEN),
-        Line(Attach(0, One), Done),
-        Line(Attach(1, One), Done),
-        Line(HandIn(2, Test), WAITS),
-        Line(HandIn(3, Test), WAITS),
-        Line(ServeOwn(3), Ends(End::Moved(Two))),
-        Line(Collect(2), POWER_ON),
-        Line(Attach(0, One), Done),
-        Line(AtDesk(4, Test), POWER_ON),
-        Line(AtDesk(4, Set(Two)), GOOD),
-        Line(AtDesk(4, Test), Ends(End::Moved(Two))),
-        Line(HandIn(4, Test), WAITS),
-        Line(Collect(4), Ends(End::Moved(Two))),
-        Line(Close, Done),
-    ]
+fn what_is_done() -> &'static str {
+    "
+attach 0 1 = done
+hand 0 test = waits
+collect 0 = check 062900
+hand 0 write = waits
+collect 0 = good
+attach 0 1 = done
+desk 1 test = check 062900
+desk 1 read = good 512*A5
+attach 0 1 = done
+attach 1 1 = done
+hand 2 test = waits
+hand 3 test = waits
+own 3 = moved 2
+collect 2 = check 062900
+attach 0 1 = done
+desk 4 test = check 062900
+desk 4 set = good
+desk 4 test = moved 2
+hand 4 test = waits
+collect 4 = moved 2
+close = done
+"
 }
 
 // Does the worker's work.

@@ -14,8 +14,6 @@ mod histories;
 #[cfg(test)]
 mod lanes;
 #[cfg(test)]
-mod many;
-#[cfg(test)]
 mod moves;
 #[cfg(test)]
 mod runs;

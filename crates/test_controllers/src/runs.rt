@@ -1,12 +1,14 @@
 //! Units in memory whose openers may fail, and the tales that are told of them.
 ghost use Rattle.std.specs.Prelude.{◌≤◌, IfOk, length};
 
-use crate::script::Line;
+use crate::ends::must_do;
 use crate::shared::tell;
 use crate::tales::Tale;
 use block_file::{FusedOpener, KeepOpener, MemBlocks};
 use std::alloc::Global;
+use std::io::Eprint;
 use std::marker::Brand;
+use std::process::Abort;
 use std::sync::Wait;
 use std::test::Fail;
 use std::thread::Threads;
@@ -53,12 +55,35 @@ pub fn run<W: Threads + Wait + Clone + Send + Sync + Drop>(
     tell::<Brand, _, _, W>(rt, alloc, new, tale)
 }
 
-/// Performs a script over units that are opened so often, and a desk without lanes.
-pub fn perform<W: Threads + Wait + Clone + Send + Sync + Drop>(
-    rt: &W,
+// The numbers of a line.
+fn numbers_of(rt: &impl Abort, alloc: Global, words: &str) -> Vec<u64> {
+    let mut numbers = Vec::new(alloc);
+    for word in words.split_ascii_whitespace() {
+        let number = word.parse().expect(rt, words);
+        numbers.push(number).expect(rt, "memory");
+    }
+    numbers
+}
+
+// Performs a script, the first line of which has its name, and how often each unit is opened before an open fails.
+fn perform<R: Threads + Wait + Abort + Eprint + Clone + Send + Sync + Drop>(
+    rt: &R,
     alloc: Global,
-    opens: &[u64],
-    script: &[Line],
-) -> Result<(), Fail> {
-    run(rt, alloc, opens, Tale::Script(script))
+    script: &str,
+) {
+    let (head, lines) = script.trim_start().split_once('\n').expect(rt, "lines");
+    let (name, opens) = head.split_once(';').expect(rt, head);
+    let opens = numbers_of(rt, alloc, opens);
+    must_do(rt, name, run(rt, alloc, &opens, Tale::Script(lines)));
+}
+
+/// Performs each script of a table over such units, and a desk without lanes. An empty line is between two scripts.
+pub fn perform_all<R: Threads + Wait + Abort + Eprint + Clone + Send + Sync + Drop>(
+    rt: &R,
+    alloc: Global,
+    table: &str,
+) {
+    for script in table.split("\n\n") {
+        perform(rt, alloc, script);
+    }
 }

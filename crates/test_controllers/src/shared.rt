@@ -2,9 +2,9 @@
 ghost use Rattle.std.specs.Prelude.{◌<◌, ◌≤◌, IfSome, length};
 ghost use Rattle.unit_history.specs.Naming.{IsNamed};
 
-use crate::any_array::{Array, End};
-use crate::script::{Asks, command_of};
+use crate::any_array::{Array, End, ended, number_of, sense_number};
 use crate::tales::{Tale, happens};
+use access_states::AsetFault;
 use array_units::Units;
 use block_file::{BLOCK_LENGTH, Blocks, MemBlocks, Opener, ReplyMemory};
 use disk_preparer::BlockMemory;
@@ -22,26 +22,42 @@ use unit_state::MoveFault;
 
 fn end_of(reply: &Reply) -> End {
     match (reply.status(), reply.sense()) {
-        (Status::Good, _) => End::Good,
-        (Status::ReservationConflict, _) => End::Conflict,
-        (_, Some(sense)) => End::Check(sense),
-        (_, None) => End::Nobody,
+        (Status::Good, _) => ended("good"),
+        (Status::ReservationConflict, _) => ended("conflict"),
+        (_, Some(sense)) => End {
+            word: "check",
+            number: sense_number(sense.key, sense.asc, sense.ascq),
+        },
+        (_, None) => ended("nobody"),
     }
 }
 
 fn end_by(why: Refused<Group>) -> End {
     match why {
-        Refused::Gone => End::Gone,
-        Refused::Moved(owner) => End::Moved(owner),
-        Refused::NoMemory => End::NoMemory,
+        Refused::Gone => ended("gone"),
+        Refused::Moved(owner) => End {
+            word: "moved",
+            number: number_of(owner),
+        },
+        Refused::NoMemory => ended("memory"),
     }
 }
 
 fn end_at(fault: DeskFault) -> End {
     match fault {
-        DeskFault::Full => End::Full,
-        DeskFault::Closed => End::Closed,
-        DeskFault::NoMemory => End::NoMemory,
+        DeskFault::Full => ended("full"),
+        DeskFault::Closed => ended("closed"),
+        DeskFault::NoMemory => ended("memory"),
+    }
+}
+
+// Why a unit stays.
+fn stays(why: MoveFault) -> &'static str {
+    match why {
+        MoveFault::List(AsetFault::Length) => "length",
+        MoveFault::List(AsetFault::BadList) => "list",
+        MoveFault::OpenFailed => "unopened",
+        MoveFault::Gone => "gone",
     }
 }
 
@@ -128,7 +144,7 @@ impl<W: Wait + Drop, B: Blocks, O: Opener<B>, N: Namings<Opened>> Array<Host<B, 
         bytes: &[u8],
     ) -> End {
         let Some(pass) = self.pass_of(host) else {
-            return End::Nobody;
+            return ended("nobody");
         };
         let (units, room) = (&self.units, ReplyMemory::new(self.alloc));
         let (pass, end) = units.serve(&self.rt, pass, room, &by_group, &Ok(command), bytes);
@@ -137,7 +153,7 @@ impl<W: Wait + Drop, B: Blocks, O: Opener<B>, N: Namings<Opened>> Array<Host<B, 
 
     fn ask_at_desk(&self, host: &mut Host<B, O, N>, command: Command, bytes: &[u8]) -> End {
         let Some(pass) = self.pass_of(host) else {
-            return End::Nobody;
+            return ended("nobody");
         };
         let (units, room) = (&self.units, ReplyMemory::new(self.alloc));
         let (pass, end) = self
@@ -152,10 +168,9 @@ impl<W: Wait + Drop, B: Blocks, O: Opener<B>, N: Namings<Opened>> Array<Host<B, 
         }
     }
 
-    fn hand_in(&self, host: &mut Host<B, O, N>, asks: Asks) -> End {
-        let (command, bytes) = command_of(asks);
+    fn hand_in(&self, host: &mut Host<B, O, N>, command: Command, bytes: &'static [u8]) -> End {
         let Some(pass) = host.pass.take() else {
-            return End::Nobody;
+            return ended("nobody");
         };
         match self
             .desk
@@ -163,7 +178,7 @@ impl<W: Wait + Drop, B: Blocks, O: Opener<B>, N: Namings<Opened>> Array<Host<B, 
         {
             Ok(ticket) => {
                 host.ticket = Some(ticket);
-                End::Waits
+                ended("waits")
             }
             Err((fault, pass, _)) => {
                 host.pass = Some(pass);
@@ -174,7 +189,7 @@ impl<W: Wait + Drop, B: Blocks, O: Opener<B>, N: Namings<Opened>> Array<Host<B, 
 
     fn collect(&self, host: &mut Host<B, O, N>) -> End {
         let Some(ticket) = host.ticket.take() else {
-            return End::Nobody;
+            return ended("nobody");
         };
         let (pass, end) = self.desk.collect(&self.rt, ticket);
         host.keep(pass, end)
@@ -183,10 +198,10 @@ impl<W: Wait + Drop, B: Blocks, O: Opener<B>, N: Namings<Opened>> Array<Host<B, 
     fn serve_own(&self, host: &mut Host<B, O, N>) -> End {
         let units = &self.units;
         let Some(ticket) = host.ticket.take() else {
-            return End::Nobody;
+            return ended("nobody");
         };
         if ticket.place() >= units.count() {
-            return End::Nobody;
+            return ended("nobody");
         }
         let (pass, end) = self.desk.serve_own(&self.rt, units, ticket);
         host.keep(pass, end)
@@ -223,33 +238,41 @@ impl<W: Wait + Drop, B: Blocks, O: Opener<B>, N: Namings<Opened>> Array<Host<B, 
         Some(self.units.read(&self.rt, place))
     }
 
-    fn move_by(&self, place: usize, list: &[u8]) -> Option<Result<(), MoveFault>> {
+    fn move_by(&self, place: usize, list: &[u8]) -> End {
         if place >= self.units.count() {
-            return None;
+            return ended("nobody");
         }
-        let (_seen, end) = set_groups(&self.rt, &self.units, place, list);
-        match end {
-            Ok(_) => Some(Ok(())),
-            Err(why) => Some(Err(why)),
+        let (_seen, came) = set_groups(&self.rt, &self.units, place, list);
+        match came {
+            Ok(_) => ended("done"),
+            Err(why) => ended(stays(why)),
         }
     }
 
-    fn take_down(&self, group: Group) -> Result<(), (usize, MoveFault)> {
+    fn take_down(&self, group: Group) -> End {
         let mut mover = Mover::new(&self.units);
         match take_down(&self.rt, &mut mover, group) {
-            Ok(()) => Ok(()),
-            Err(stopped) => Err((stopped.unit, stopped.why)),
+            Ok(()) => ended("done"),
+            Err(stopped) => End {
+                word: stays(stopped.why),
+                number: stopped.unit as u64,
+            },
         }
     }
 
-    fn serve_first(&self) -> Option<usize> {
-        let job = self.desk.take(&self.rt)?;
+    fn serve_first(&self) -> End {
+        let Some(job) = self.desk.take(&self.rt) else {
+            return ended("no-job");
+        };
         let unit = job.place();
         if unit < self.units.count() {
             let answer = job.serve(&self.rt, &self.units);
             self.desk.post(&self.rt, answer);
         }
-        Some(unit)
+        End {
+            word: "job",
+            number: unit as u64,
+        }
     }
 
     fn serve_next(&self) -> bool {

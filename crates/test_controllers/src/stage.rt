@@ -1,150 +1,162 @@
 //! Performs scripts.
-use crate::any_array::{Array, End};
-use crate::script::{Asks, Deed, Line, List, Told, bytes_of, command_of, list_of};
+use crate::any_array::{Array, End, ended, want};
+use crate::script::{command_of, group_of, list_of};
 use scsi_types::Group;
 use std::alloc::Global;
 use std::test::Fail;
+use test_connections::{bytes_of, lines_of};
 
 /// An array, and the hosts that use it, by their numbers.
 #[derive(Drop)]
 struct Stage<'a, S, A> {
+    alloc: Global,
     array: &'a A,
     hosts: Vec<S>,
+    // The host that is `next`.
+    next: usize,
 }
 
 /// Performs a script. It fails at the first line that comes to something else than it says.
 pub fn is_performed<S: Drop, A: Array<S>>(
     alloc: Global,
     array: &A,
-    script: &[Line],
+    script: &str,
 ) -> Result<(), Fail> {
     let mut stage = Stage {
+        alloc,
         array,
         hosts: Vec::new(alloc),
+        next: 0,
     };
-    for (at, line) in script.iter().enumerate() {
-        let Line(deed, told) = *line;
-        if stage.comes_to(deed, told) != Some(true) {
-            return Err(("a line of the script", at).into());
+    let lines = lines_of(alloc, script)?;
+    for line in &lines {
+        if !stage.repeats(line) {
+            return Err(Fail::from(*line));
         }
     }
-    Ok(())
+    want(!lines.is_empty(), "a script has lines")
+}
+
+// What was done, or was not.
+fn done(is_done: bool) -> End {
+    ended(if is_done { "done" } else { "failed" })
+}
+
+// The number behind a word, in hexadecimal, or 0.
+fn number(digits: &str) -> Option<u64> {
+    if digits.is_empty() {
+        return Some(0);
+    }
+    u64::from_str_radix(digits, 16).ok()
 }
 
 impl<S: Drop, A: Array<S>> Stage<'_, S, A> {
+    // Whether a line comes to what it says, as often as it is to be done.
+    fn repeats(&mut self, line: &str) -> bool {
+        let (times, lines) = line.split_once(" times ").unwrap_or(("1", line));
+        let times: u32 = times.parse().unwrap_or(0);
+        for _ in 0..times {
+            for line in lines.split("; ") {
+                if self.comes_to(line) != Some(true) {
+                    return false;
+                }
+            }
+        }
+        times > 0
+    }
+
     // None: it cannot be done.
-    fn comes_to(&mut self, deed: Deed, told: Told) -> Option<bool> {
-        match deed {
-            Deed::Attach(unit, group) => self.attach(unit, group),
-            Deed::Send(host, group, asks) => self.send(host, group, asks, told),
-            Deed::AtDesk(host, asks) => self.at_desk(host, asks, told),
-            Deed::HandIn(host, asks) => self.hand_in(host, asks, told),
-            Deed::Collect(host) => self.collect(host, told),
-            Deed::ServeOwn(host) => self.serve_own(host, told),
-            Deed::ServeFirst => Some(self.serve_first(told)),
-            Deed::Close => Some(self.close()),
-            Deed::Read(unit) => self.read(unit, told),
-            Deed::Move(unit, list) => self.move_by(unit, list, told),
-            Deed::TakeDown(group) => Some(self.take_down(group, told)),
+    fn comes_to(&mut self, line: &str) -> Option<bool> {
+        let (deed, told) = line.split_once(" = ")?;
+        let (verb, rest) = deed.split_once(' ').unwrap_or((deed, ""));
+        let (place, rest) = rest.split_once(' ').unwrap_or((rest, ""));
+        let place = self.place(place)?;
+        if verb == "row" {
+            return self.shows(place, told);
+        }
+        let end = self.end(verb, place, rest)?;
+        let (word, rest) = told.split_once(' ').unwrap_or((told, ""));
+        if end.word == "good" && word == "good" {
+            return self.answers(place, rest);
+        }
+        Some(end.word == word && end.number == number(rest)?)
+    }
+
+    // The place that a word says: a host, a unit, or 0.
+    fn place(&mut self, word: &str) -> Option<usize> {
+        match word {
+            "" => Some(0),
+            "last" => self.hosts.len().checked_sub(1),
+            "next" => {
+                self.next = self.next.wrapping_add(1);
+                self.next.checked_sub(1)
+            }
+            _ => word.parse().ok(),
         }
     }
 
-    // Whether a command of a host ends so.
-    fn ends(&mut self, host: usize, end: End, told: Told) -> Option<bool> {
-        match (told, end) {
-            (Told::Good(data), End::Good) => {
-                Some(self.array.data(self.hosts.get(host)?) == bytes_of(data))
-            }
-            (Told::Kept(data), End::Good) => {
-                let host = self.hosts.get(host)?;
-                Some(self.array.is_kept(host) && self.array.data(host) == bytes_of(data))
-            }
-            (Told::Check(key, asc, ascq), End::Check(sense)) => {
-                Some(sense.key == key && sense.asc == asc && sense.ascq == ascq)
-            }
-            (Told::Ends(wanted), end) => Some(end == wanted),
-            _ => Some(false),
-        }
-    }
-
-    // The next host attaches. Its number is its ISID.
-    fn attach(&mut self, unit: usize, group: Group) -> Option<bool> {
-        let isid = u32::try_from(self.hosts.len()).ok()?;
-        let host = self.array.attach(unit, isid, group)?;
-        self.hosts.push(host).ok()?;
-        Some(true)
-    }
-
-    fn send(&mut self, host: usize, group: Group, asks: Asks, told: Told) -> Option<bool> {
-        let (command, bytes) = command_of(asks);
-        let end = self
-            .array
-            .ask(self.hosts.get_mut(host)?, group, command, bytes);
-        self.ends(host, end, told)
-    }
-
-    fn at_desk(&mut self, host: usize, asks: Asks, told: Told) -> Option<bool> {
-        let (command, bytes) = command_of(asks);
-        let end = self
-            .array
-            .ask_at_desk(self.hosts.get_mut(host)?, command, bytes);
-        self.ends(host, end, told)
-    }
-
-    fn hand_in(&mut self, host: usize, asks: Asks, told: Told) -> Option<bool> {
-        let end = self.array.hand_in(self.hosts.get_mut(host)?, asks);
-        self.ends(host, end, told)
-    }
-
-    fn collect(&mut self, host: usize, told: Told) -> Option<bool> {
-        let end = self.array.collect(self.hosts.get_mut(host)?);
-        self.ends(host, end, told)
-    }
-
-    fn serve_own(&mut self, host: usize, told: Told) -> Option<bool> {
-        let end = self.array.serve_own(self.hosts.get_mut(host)?);
-        self.ends(host, end, told)
-    }
-
-    fn serve_first(&self, told: Told) -> bool {
-        match (told, self.array.serve_first()) {
-            (Told::Job(wanted), Some(unit)) => unit == wanted,
-            (Told::NoJob, None) => true,
-            _ => false,
-        }
-    }
-
-    fn close(&self) -> bool {
-        self.array.close();
-        true
-    }
-
-    fn read(&self, unit: usize, told: Told) -> Option<bool> {
+    // Whether the board of a unit shows this.
+    fn shows(&self, unit: usize, told: &str) -> Option<bool> {
         let row = self.array.row(unit)?;
-        match told {
-            Told::Row(owner, (one, two), entries) => Some(
-                row.owner == owner
-                    && row.states.0 == one
-                    && row.states.1 == two
-                    && row.entries == entries,
-            ),
-            _ => Some(false),
+        let (one, two) = row.states;
+        let shown = format!(in self.alloc; "{} {one} {two} {}", row.owner, row.entries).ok()?;
+        Some(shown.as_str() == told)
+    }
+
+    // Whether a host has these data.
+    fn answers(&self, host: usize, data: &str) -> Option<bool> {
+        let wanted = bytes_of(self.alloc, &[], data).ok()?;
+        Some(self.array.data(self.hosts.get(host)?) == wanted.as_slice())
+    }
+
+    // What becomes of what is done at a place.
+    fn end(&mut self, verb: &str, place: usize, rest: &str) -> Option<End> {
+        let next = self.hosts.len();
+        match verb {
+            "attach" => self.attach(place, next, group_of(rest)?),
+            "again" => self.attach(0, place, group_of(rest)?),
+            "first" => Some(self.array.serve_first()),
+            "close" => {
+                self.array.close();
+                Some(ended("done"))
+            }
+            "move" => Some(self.array.move_by(place, list_of(rest))),
+            "down" if place == 1 => Some(self.array.take_down(Group::One)),
+            "down" => Some(self.array.take_down(Group::Two)),
+            _ => self.end_of_host(verb, place, rest),
         }
     }
 
-    fn move_by(&self, unit: usize, list: List, told: Told) -> Option<bool> {
-        match (told, self.array.move_by(unit, list_of(list))?) {
-            (Told::Done, Ok(())) => Some(true),
-            (Told::Stays(wanted), Err(why)) => Some(why == wanted),
-            _ => Some(false),
-        }
+    // The next host attaches, with this ISID.
+    fn attach(&mut self, unit: usize, isid: usize, group: Group) -> Option<End> {
+        let host = self.array.attach(unit, u32::try_from(isid).ok()?, group)?;
+        self.hosts.push(host).ok()?;
+        Some(ended("done"))
     }
 
-    fn take_down(&self, controller: Group, told: Told) -> bool {
-        match (told, self.array.take_down(controller)) {
-            (Told::Done, Ok(())) => true,
-            (Told::StopsAt(unit, wanted), Err((stopped, why))) => stopped == unit && why == wanted,
-            _ => false,
+    // What becomes of what a host does.
+    fn end_of_host(&mut self, verb: &str, host: usize, asks: &str) -> Option<End> {
+        let array = self.array;
+        let host = self.hosts.get_mut(host)?;
+        match verb {
+            "collect" => Some(array.collect(host)),
+            "own" => Some(array.serve_own(host)),
+            "kept" => Some(done(array.is_kept(host))),
+            "reset" => Some(done(array.reset(host))),
+            "retire" => Some(done(array.retire(host))),
+            _ => end_of_command(array, verb, host, asks),
         }
+    }
+}
+
+// What becomes of a host's command.
+fn end_of_command<S, A: Array<S>>(array: &A, verb: &str, host: &mut S, asks: &str) -> Option<End> {
+    let (command, bytes) = command_of(asks)?;
+    match verb {
+        "send-1" => Some(array.ask(host, Group::One, command, bytes)),
+        "send-2" => Some(array.ask(host, Group::Two, command, bytes)),
+        "desk" => Some(array.ask_at_desk(host, command, bytes)),
+        "hand" => Some(array.hand_in(host, command, bytes)),
+        _ => None,
     }
 }

@@ -1,8 +1,7 @@
 //! What is told of an array by its tests, and over which units.
 
 use crate::any_array::Array;
-use crate::histories::{sessions, threads};
-use crate::script::Line;
+use crate::histories::threads;
 use crate::{lanes, stage};
 use std::alloc::Global;
 use std::sync::Wait;
@@ -13,13 +12,9 @@ use std::thread::Threads;
 #[derive(Clone, Copy)]
 pub enum Tale<'a> {
     /// What a script says.
-    Script(&'a [Line]),
+    Script(&'a str),
     /// A worker and a lane share a desk.
     Shared,
-    /// 2000 commands of a session, and what comes behind them.
-    Served,
-    /// More sessions than may be attached at once, one behind another.
-    InTurn,
     /// Two threads register, and a third reads the board.
     Watched,
 }
@@ -34,8 +29,6 @@ pub fn happens<W: Threads + Wait + Sync, S: Send + Drop, A: Array<S> + Sync>(
     match tale {
         Tale::Script(script) => stage::is_performed(alloc, array, script),
         Tale::Shared => lanes::share(rt, alloc, array),
-        Tale::Served => sessions::are_served(array),
-        Tale::InTurn => sessions::come_in_turn(array),
         Tale::Watched => threads::are_watched(rt, array),
     }
 }

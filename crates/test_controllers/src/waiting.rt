@@ -1,89 +1,71 @@
-//! A desk without lanes: 64 jobs, one more, and none once it is closed; the jobs come back in their order. Commands that are served at
-//! once, one after the other, find no desk full.
-use crate::any_array::End;
-use crate::runs::perform;
-use crate::script::Asks::{Read, Spare, Test};
-use crate::script::Deed::{AtDesk, Attach, Close, Collect, HandIn, ServeFirst, ServeOwn};
-use crate::script::Told::{Done, Ends, Job, Kept, NoJob};
-use crate::script::{Data, GOOD, Line, POWER_ON, WAITS};
-use scsi_types::Group::{One, Two};
-use std::alloc::{AllocError, Global};
+//! A desk without lanes, and sessions of one unit, one call behind another.
+use crate::runs::perform_all;
 use std::test::*;
 
-/// So many jobs wait at a desk.
-const PLACES: usize = 64;
+/// Scripts, as in `moves.rt`.
+fn scripts() -> &'static str {
+    r#"
+a desk without lanes; 9 9
+# Sessions of units 0 and 1 in turn hand in 64 jobs. One more is not taken in, nor any once the desk is closed. A worker serves at once,
+# past those that wait, as often as it comes. The jobs come back in their order, and no more. A session of unit 0 is told that power
+# came on, and one of unit 1 that group 2 owns it.
+32 times attach 0 1 = done; hand last spare = waits; attach 1 1 = done; hand last spare = waits
+attach 0 1 = done
+hand 64 spare = full
+desk 64 test = check 062900
+4 times desk 64 test = good
+close = done
+attach 1 1 = done
+hand 65 spare = closed
+32 times first = job 0; first = job 1
+first = no-job
+32 times collect next = check 062900; collect next = moved 2
 
-// One more is not taken in, nor any once the desk is closed. A worker serves at once, past those that wait, as often as it comes.
-const REFUSED: &[Line] = &[
-    Line(Attach(0, One), Done),
-    Line(HandIn(PLACES, Spare), Ends(End::Full)),
-    Line(AtDesk(PLACES, Test), POWER_ON),
-    Line(AtDesk(PLACES, Test), GOOD),
-    Line(AtDesk(PLACES, Test), GOOD),
-    Line(AtDesk(PLACES, Test), GOOD),
-    Line(AtDesk(PLACES, Test), GOOD),
-    Line(Close, Done),
-    Line(Attach(1, One), Done),
-    Line(HandIn(PLACES + 1, Spare), Ends(End::Closed)),
-];
+a job keeps the memory of its reply; 9
+# Whoever serves a job reads into the memory that came with it.
+attach 0 1 = done
+hand 0 test = waits
+first = job 0
+collect 0 = check 062900
+hand 0 read = waits
+first = job 0
+collect 0 = good 512*00
+kept 0 = done
+hand 0 read = waits
+own 0 = good 512*00
+kept 0 = done
 
-// Sessions of units 0 and 1 in turn hand in a job for each place.
-fn fill(script: &mut Vec<Line>) -> Result<(), AllocError> {
-    for host in 0..PLACES {
-        script.push(Line(Attach(host % 2, One), Done))?;
-        script.push(Line(HandIn(host, Spare), WAITS))?;
-    }
-    Ok(())
-}
+two thousand commands; 9
+# All but the first, which tells of the power on, are GOOD. By the other group it is moved, which is no entry; by the owner it is one.
+# The nexus attaches again: the session before is gone, and neither its command nor its reset is an entry. The new session resets the
+# unit, and ends; the session before does not end once more.
+attach 0 1 = done
+send-1 0 test = check 062900
+1999 times send-1 0 test = good
+row 0 = 1 0 1 2001
+send-2 0 test = moved 1
+row 0 = 1 0 1 2001
+send-1 0 test = good
+row 0 = 1 0 1 2002
+again 0 1 = done
+row 0 = 1 0 1 2003
+send-1 0 test = gone
+reset 0 = failed
+row 0 = 1 0 1 2003
+reset 1 = done
+row 0 = 1 0 1 2004
+retire 0 = failed
+retire 1 = done
+row 0 = 1 0 1 2005
 
-// The jobs come back in their order, and no more.
-fn empty(script: &mut Vec<Line>) -> Result<(), AllocError> {
-    for host in 0..PLACES {
-        script.push(Line(ServeFirst, Job(host % 2)))?;
-    }
-    Ok(script.push(Line(ServeFirst, NoJob))?)
-}
-
-// A session of unit 0 is told that power came on, and one of unit 1 that group 2 owns it.
-fn collect(script: &mut Vec<Line>) -> Result<(), AllocError> {
-    let ends = [POWER_ON, Ends(End::Moved(Two))];
-    for host in 0..PLACES {
-        script.push(Line(Collect(host), ends[host % 2]))?;
-    }
-    Ok(())
-}
-
-fn write(alloc: Global) -> Result<Vec<Line>, AllocError> {
-    let mut script = Vec::new(alloc);
-    fill(&mut script)?;
-    for line in REFUSED {
-        script.push(*line)?;
-    }
-    empty(&mut script)?;
-    collect(&mut script)?;
-    Ok(script)
-}
-
-// Whoever serves a job reads into the memory that came with it.
-const KEPT: &[Line] = &[
-    Line(Attach(0, One), Done),
-    Line(HandIn(0, Test), WAITS),
-    Line(ServeFirst, Job(0)),
-    Line(Collect(0), POWER_ON),
-    Line(HandIn(0, Read), WAITS),
-    Line(ServeFirst, Job(0)),
-    Line(Collect(0), Kept(Data::Blank)),
-    Line(HandIn(0, Read), WAITS),
-    Line(ServeOwn(0), Kept(Data::Blank)),
-];
-
-#[test]
-fn a_job_keeps_the_memory_of_its_reply(rt: HostRuntime) -> Result<(), Fail> {
-    perform(&rt, rt.alloc(), &[9], KEPT)
+more sessions in turn than at once; 9
+# Three entries each.
+65 times attach 0 1 = done; send-1 last test = check 062900; retire last = done
+row 0 = 1 0 1 195
+"#
 }
 
 #[test]
-fn a_desk_without_lanes(rt: HostRuntime) -> Result<(), Fail> {
-    let script = write(rt.alloc())?;
-    perform(&rt, rt.alloc(), &[9, 9], script.as_slice())
+fn a_desk_and_sessions_in_turn(rt: HostRuntime) {
+    perform_all(&rt, rt.alloc(), scripts());
 }

@@ -1,34 +1,41 @@
 //! A desk in the pure world that is full.
 use crate::ends::must;
-use crate::events::rows::Act::{Attach, Submit, Take};
-use crate::events::rows::Asks::Test;
-use crate::events::rows::{Act, Noted, Said};
 use crate::events::run::notes_behind;
 use crate::events::worlds::{MemWorld, events_of, two_units};
-use scsi_types::Group::One;
 use std::alloc::Global;
-use std::test::Fail;
+use std::process::Abort;
+use std::test::*;
 
 /// So many jobs a desk has room for.
 const JOBS: usize = 64;
 
-// An event happens: what it notes, where it is one thing.
-fn said(alloc: Global, world: &mut MemWorld, act: Act) -> Result<Option<Said>, Fail> {
+// An event happens: what is noted of it.
+fn noted(alloc: Global, world: &mut MemWorld, act: &str) -> Result<String, Fail> {
     let before = world.notes().len();
-    let events = events_of(alloc, &[act])?;
-    world.run(&events)?;
-    let notes = notes_behind(alloc, world.notes(), before)?;
-    match notes.as_slice() {
-        [Noted(_, _, _, _, said)] => Ok(Some(*said)),
-        _ => Ok(None),
-    }
+    world.run(&events_of(alloc, act)?)?;
+    Ok(notes_behind(alloc, world.notes(), before)?)
 }
 
-// The units in turn have sessions, one more than the desk has room for jobs.
-fn attach(alloc: Global, world: &mut MemWorld) -> Result<(), Fail> {
-    for session in 0..=JOBS {
-        let _ = said(alloc, world, Attach(session % 2, session as u64, One))?;
-    }
+// A session of this number attaches. The units have them in turn.
+fn attach(alloc: Global, world: &mut MemWorld, number: usize) -> Result<(), Fail> {
+    let act = format!(in alloc; "attach {} {number} 1", number % 2)?;
+    let _ = noted(alloc, world, act.as_str())?;
+    Ok(())
+}
+
+// It hands in a job, of which one thing is noted.
+fn submit(
+    rt: &impl Abort,
+    alloc: Global,
+    world: &mut MemWorld,
+    number: usize,
+    said: &str,
+) -> Result<(), Fail> {
+    let act = format!(in alloc; "submit {number} 1 test")?;
+    let note = noted(alloc, world, act.as_str())?;
+    let mut words = note.as_str().split_ascii_whitespace();
+    let is_right = words.nth(4) == Some(said) && words.next().is_none();
+    must(rt, is_right, act.as_str(), &note);
     Ok(())
 }
 
@@ -36,16 +43,14 @@ fn attach(alloc: Global, world: &mut MemWorld) -> Result<(), Fail> {
 fn a_desk_with_as_many_jobs_as_it_has_room_for(rt: HostRuntime) -> Result<(), Fail> {
     let alloc = rt.alloc();
     let mut world = two_units(alloc, [9, 9])?;
-    attach(alloc, &mut world)?;
-    must(&rt, world.sessions().len() == JOBS + 1, "sessions", &JOBS);
-    for session in 0..JOBS {
-        let end = said(alloc, &mut world, Submit(session, One, Test))?;
-        must(&rt, end == Some(Said::Submitted), "a job", &session);
+    for number in 0..=JOBS {
+        attach(alloc, &mut world, number)?;
     }
-    let end = said(alloc, &mut world, Submit(JOBS, One, Test))?;
-    must(&rt, end == Some(Said::Busy), "one more", &JOBS);
-    let _ = said(alloc, &mut world, Take(One))?;
-    let end = said(alloc, &mut world, Submit(JOBS, One, Test))?;
-    must(&rt, end == Some(Said::Submitted), "the place of one", &JOBS);
-    Ok(())
+    must(&rt, world.sessions().len() == JOBS + 1, "sessions", &JOBS);
+    for number in 0..JOBS {
+        submit(&rt, alloc, &mut world, number, "submitted")?;
+    }
+    submit(&rt, alloc, &mut world, JOBS, "busy")?;
+    let _ = noted(alloc, &mut world, "take 1")?;
+    submit(&rt, alloc, &mut world, JOBS, "submitted")
 }

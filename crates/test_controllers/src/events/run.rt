@@ -1,88 +1,121 @@
-//! The runner of the tables.
+//! Tables of what happens in a world of units 0 and 1, which are opened so often before an open fails (`opens 9 9`). A row goes on in
+//! lines that begin with blanks:
+//!
+//! - its name, a colon, and what happens: the port of ISID 2 attaches to unit 0 through group 1 (`attach 0 2 1`); a session ends or
+//!   resets its unit (`detach 0`, `reset 0`); unit 0 moves to group 2 (`move 0 2`); session 0 hands in a command at the desk of group 1
+//!   (`submit 0 1 test`), or its worker serves it at once (`begin`), or once more what came to Moved (`again 0`, `begin-again 0`), each
+//!   with `-late` where its flush is left to come behind it; its worker takes its job back (`back 0`); a desk closes (`close 1`), or a
+//!   lane takes its first job (`take 1`); the job of session 0 is served, answered and collected (`serve 0`, `post 0`, `collect 0`); its
+//!   flush is done or has failed (`done 0`, `failed 0`);
+//! - what is noted: the place of the unit, the session's id, the serial, how many entries the unit had, and what the session did, or
+//!   heard at the desk of a group, of the entry at a place: GOOD without data (`good 1 2`), CHECK CONDITION with its sense
+//!   (`check 1 2 062900`), and with `-behind` of a command whose flush was left to come behind it: GOOD where a flush was done, CHECK
+//!   CONDITION where none was. All else is `other`;
+//! - how many entries both units then have; and how the sessions stand: the place of the unit, the id, the serial of the next command,
+//!   and where the command is.
+//!
+//! Sessions go by the order in which they attached, units by their places. Commands are TEST UNIT READY, SET TARGET PORT GROUPS (`set 2`),
+//! WRITE (10) of block 0 with a byte (`write 5`), with FUA (`fua 5`) and beyond the last block (`beyond`), and SYNCHRONIZE CACHE (10).
 use crate::ends::must;
-use crate::events::rows::{At, Noted, Row, Said, Stands};
 use crate::events::worlds::{MemWorld, events_of, two_units};
-use scsi_types::{Reply, Status};
-use std::alloc::Global;
+use crate::events::{late, moves, sessions};
+use scsi_types::{Group, Reply, Status};
+use std::alloc::{AllocError, Global};
 use std::process::Abort;
-use std::test::Fail;
+use std::test::*;
+use test_connections::lines_of;
 use unit_events::Job;
 use unit_state::UnitRow;
 use world::{Note, Stage, What};
 
-/// What is seen of a world behind a row: what was noted, what the units show, and how the sessions stand.
+/// What is seen of a world behind a row: what the units show, and as text what was noted, how many entries they have, and how the
+/// sessions stand.
 #[derive(Drop)]
 struct Seen {
-    notes: Vec<Noted>,
     boards: [Option<UnitRow>; 2],
-    sessions: Vec<Stands>,
+    text: String,
 }
 
-fn told(job: &Job, reply: &Reply, at: u64) -> Said {
+// A reply to a session.
+fn put_reply(
+    text: &mut String,
+    job: &Job,
+    reply: &Reply,
+    at: u64,
+    behind: &str,
+) -> Result<(), AllocError> {
+    let by = match job.by_group {
+        Group::One => 1,
+        Group::Two => 2,
+    };
     match reply.sense() {
-        Some(sense) => Said::Check(job.by_group, at, (sense.key, sense.asc, sense.ascq)),
+        Some(sense) => write!(
+            text,
+            "check{behind} {by} {at} {:02X}{:02X}{:02X}",
+            sense.key, sense.asc, sense.ascq
+        ),
         None if reply.status() == Status::Good && reply.bytes().is_empty() => {
-            Said::Good(job.by_group, at)
+            write!(text, "good{behind} {by} {at}")
         }
-        None => Said::Other,
+        None => text.push_str("other"),
     }
 }
 
-// The same of a command whose flush was left to come behind it.
-fn told_behind(job: &Job, reply: &Reply, at: u64, is_flushed: bool) -> Said {
-    match (told(job, reply, at), is_flushed) {
-        (Said::Good(by_group, at), true) => Said::GoodBehind(by_group, at),
-        (Said::Check(by_group, at, sense), false) => Said::CheckBehind(by_group, at, sense),
-        _ => Said::Other,
-    }
-}
-
-fn said(what: &What) -> Said {
+// What a session did, or heard.
+fn put_said(text: &mut String, what: &What) -> Result<(), AllocError> {
     match what {
-        What::Submitted => Said::Submitted,
-        What::FlushBegan => Said::FlushBegan,
-        What::Replied(job, reply, at) => told(job, reply, *at),
-        What::Settled(job, reply, at, is_flushed) => told_behind(job, reply, *at, *is_flushed),
-        What::Busy => Said::Busy,
-        What::Gone => Said::Gone,
-    }
-}
-
-fn at(stage: &Stage) -> At {
-    match stage {
-        Stage::Idle => At::Idle,
-        Stage::Waits(_) => At::Waits,
-        Stage::InLane(_) => At::InLane,
-        Stage::Ended(_, _) => At::Ended,
-        Stage::Answered(_, _) => At::Answered,
-        Stage::Flushes(_) => At::Flushes,
-        Stage::Returned(_) => At::Returned,
-    }
-}
-
-/// Those that stand behind so many.
-pub fn notes_behind(alloc: Global, notes: &[Note], before: usize) -> Result<Vec<Noted>, Fail> {
-    let mut seen = Vec::new(alloc);
-    for (place, note) in notes.iter().enumerate() {
-        if place >= before {
-            seen.push(Noted(
-                note.place,
-                note.session,
-                note.serial,
-                note.count,
-                said(&note.what),
-            ))?;
+        What::Submitted => text.push_str("submitted"),
+        What::FlushBegan => text.push_str("flushes"),
+        What::Replied(job, reply, at) => put_reply(text, job, reply, *at, ""),
+        What::Settled(job, reply, at, is_flushed) if *is_flushed == reply.sense().is_none() => {
+            put_reply(text, job, reply, *at, "-behind")
         }
+        What::Settled(..) => text.push_str("other"),
+        What::Busy => text.push_str("busy"),
+        What::Gone => text.push_str("gone"),
     }
-    Ok(seen)
 }
 
-fn sessions_of(alloc: Global, world: &MemWorld) -> Result<Vec<Stands>, Fail> {
-    let mut seen = Vec::new(alloc);
-    for session in world.sessions() {
-        seen.push(Stands(session.place, session.id, session.next, at(&session.stage)))?;
+fn at(stage: &Stage) -> &'static str {
+    match stage {
+        Stage::Idle => "idle",
+        Stage::Waits(_) => "waits",
+        Stage::InLane(_) => "lane",
+        Stage::Ended(_, _) => "ended",
+        Stage::Answered(_, _) => "answered",
+        Stage::Flushes(_) => "flushes",
+        Stage::Returned(_) => "returned",
     }
-    Ok(seen)
+}
+
+/// The notes behind so many, as a row tells of them, without commas.
+pub fn notes_behind(alloc: Global, notes: &[Note], before: usize) -> Result<String, AllocError> {
+    let mut text = String::new(alloc);
+    for note in notes.get(before..).unwrap_or(&[]) {
+        let Note {
+            place,
+            session,
+            serial,
+            count,
+            what,
+        } = note;
+        write!(text, "{place} {session} {serial} {count} ")?;
+        put_said(&mut text, what)?;
+        text.push(' ')?;
+    }
+    Ok(text)
+}
+
+fn put_sessions(text: &mut String, world: &MemWorld) -> Result<(), AllocError> {
+    for session in world.sessions() {
+        let stands = at(&session.stage);
+        write!(
+            text,
+            " {} {} {} {stands}",
+            session.place, session.id, session.next
+        )?;
+    }
+    Ok(())
 }
 
 fn board(world: &MemWorld, place: usize) -> Option<UnitRow> {
@@ -92,27 +125,47 @@ fn board(world: &MemWorld, place: usize) -> Option<UnitRow> {
     }
 }
 
-fn look(alloc: Global, world: &MemWorld, before: usize) -> Result<Seen, Fail> {
-    Ok(Seen {
-        notes: notes_behind(alloc, world.notes(), before)?,
-        boards: [board(world, 0), board(world, 1)],
-        sessions: sessions_of(alloc, world)?,
-    })
+// How many entries a unit has, where it is there.
+fn entries(board: &Option<UnitRow>) -> u64 {
+    match board {
+        Some(row) => row.entries,
+        None => u64::MAX,
+    }
 }
 
-// A unit has so many entries. Where it had as many before, it shows what it showed.
-fn is_unit(before: Option<UnitRow>, after: Option<UnitRow>, entries: u64) -> bool {
-    let (Some(before), Some(after)) = (before, after) else {
-        return false;
-    };
-    after.entries == entries && (before.entries != entries || before == after)
+fn look(alloc: Global, world: &MemWorld, before: usize) -> Result<Seen, AllocError> {
+    let boards = [board(world, 0), board(world, 1)];
+    let mut text = notes_behind(alloc, world.notes(), before)?;
+    write!(
+        text,
+        "=> {} {} =>",
+        entries(&boards[0]),
+        entries(&boards[1])
+    )?;
+    put_sessions(&mut text, world)?;
+    Ok(Seen { boards, text })
 }
 
-fn is_met(before: &Seen, after: &Seen, row: &Row) -> bool {
-    after.notes.as_slice() == row.notes
-        && after.sessions.as_slice() == row.sessions
-        && is_unit(before.boards[0], after.boards[0], row.entries.0)
-        && is_unit(before.boards[1], after.boards[1], row.entries.1)
+// Where a unit has as many entries as before, it shows what it showed.
+fn is_kept(before: &Option<UnitRow>, after: &Option<UnitRow>) -> bool {
+    entries(before) != entries(after) || before == after
+}
+
+// Whether a text has the words of another, but for the commas of that.
+fn has_words(text: &str, wanted: &str) -> bool {
+    let mut words = text.split_ascii_whitespace();
+    for word in wanted.split_ascii_whitespace() {
+        if words.next() != Some(word.trim_end_matches(',')) {
+            return false;
+        }
+    }
+    words.next().is_none()
+}
+
+fn is_met(before: &Seen, after: &Seen, wanted: &str) -> bool {
+    has_words(after.text.as_str(), wanted)
+        && is_kept(&before.boards[0], &after.boards[0])
+        && is_kept(&before.boards[1], &after.boards[1])
 }
 
 // Runs the events of a row, behind which so much was seen: what is seen then.
@@ -121,33 +174,38 @@ fn run_row(
     alloc: Global,
     world: &mut MemWorld,
     before: &Seen,
-    row: &Row,
+    row: &str,
 ) -> Result<Seen, Fail> {
+    let (happens, wanted) = row.split_once("=>").expect(rt, row);
+    let (_name, acts) = happens.split_once(':').expect(rt, row);
     let noted = world.notes().len();
-    let events = events_of(alloc, row.acts)?;
-    world.run(&events)?;
+    world.run(&events_of(alloc, acts)?)?;
     let after = look(alloc, world, noted)?;
-    must(rt, is_met(before, &after, row), row.what, &"something else");
+    must(rt, is_met(before, &after, wanted), row, &after.text);
     Ok(after)
 }
 
-// Runs the events of each row in turn.
-fn run_rows(
-    rt: &impl Abort,
-    alloc: Global,
-    world: &mut MemWorld,
-    rows: &[Row],
-) -> Result<(), Fail> {
-    let mut seen = look(alloc, world, 0)?;
+// Runs the events of each row of a table in turn, over units whose openers pass so many opens each.
+fn run(rt: &impl Abort, alloc: Global, table: &str) -> Result<(), Fail> {
+    let rows = lines_of(alloc, table)?;
+    let (head, rows) = rows.as_slice().split_first().expect(rt, "a table has rows");
+    must(rt, !rows.is_empty(), head, &"a table has rows");
+    let (_word, opens) = head.split_once(' ').expect(rt, head);
+    let (first, second) = opens.split_once(' ').expect(rt, head);
+    let mut world = two_units(alloc, [first.parse()?, second.parse()?])?;
+    let mut seen = look(alloc, &world, 0)?;
     for row in rows {
-        seen = run_row(rt, alloc, world, &seen, row)?;
+        seen = run_row(rt, alloc, &mut world, &seen, row)?;
     }
     Ok(())
 }
 
-/// Does so over units whose openers pass so many opens each.
-pub fn run(rt: &impl Abort, alloc: Global, opens: [u64; 2], rows: &[Row]) -> Result<(), Fail> {
-    must(rt, !rows.is_empty(), "events", &"a table has rows");
-    let mut world = two_units(alloc, opens)?;
-    run_rows(rt, alloc, &mut world, rows)
+#[test]
+fn commands_flushes_and_moves(rt: HostRuntime) -> Result<(), Fail> {
+    for tables in &[sessions::tables(), late::tables(), moves::tables()] {
+        for table in tables.split("\n\n") {
+            run(&rt, rt.alloc(), table)?;
+        }
+    }
+    Ok(())
 }

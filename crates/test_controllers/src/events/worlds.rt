@@ -2,7 +2,6 @@
 ghost use Rattle.std.specs.Prelude.{All, IfOk, OnOk};
 ghost use Rattle.unit_state.specs.Serials.{IsOpening};
 
-use crate::events::rows::{Act, Asks};
 use block_file::{FusedOpener, KeepOpener, MemBlocks};
 use scsi_types::{Asked, Group, PortName, decode};
 use std::alloc::Global;
@@ -37,11 +36,6 @@ const WRITE_BEYOND: [u8; 16] = [0x2A, 0x08, 0, 0, 0, 16, 0, 0, 1, 0, 0, 0, 0, 0,
 // SYNCHRONIZE CACHE (10) to the end of the unit (SBC-4, 5.33)
 const SYNCHRONIZE: [u8; 16] = [0x35, 0, 0, 0, 0, 0, 0, 0, 0, 0, 0, 0, 0, 0, 0, 0];
 
-// the list of SET: a group is active/optimized
-const FIRST: [u8; 8] = [0, 0, 0, 0, 0, 0, 0, 1];
-
-const SECOND: [u8; 8] = [0, 0, 0, 0, 0, 0, 0, 2];
-
 fn in_memory(alloc: Global, unit: u8, opens: u64) -> Result<MemUnit, Fail>
     ensures { IfOk result (λ u. IsOpening u.control) }
 {
@@ -66,42 +60,54 @@ pub fn two_units(alloc: Global, opens: [u64; 2]) -> Result<MemWorld, Fail> {
     Ok(World::new(alloc, units)?)
 }
 
-fn list_of(group: Group) -> &'static [u8] {
-    match group {
-        Group::One => &FIRST,
-        Group::Two => &SECOND,
-    }
+// A word, and what stands behind it.
+fn words_of(text: &str) -> (&str, &str) {
+    text.split_once(' ').unwrap_or((text, ""))
 }
 
-// A block with this byte in each of its places.
-fn block_of(alloc: Global, byte: u8) -> Result<Vec<u8>, Fail> {
-    Ok(vec![in alloc; byte; 512]?)
+fn group_of(number: usize) -> Group {
+    if number == 1 { Group::One } else { Group::Two }
 }
 
-fn bytes_of(alloc: Global, list: &[u8]) -> Result<Vec<u8>, Fail> {
-    Ok(Vec::from_slice(alloc, list)?)
+// So many zeros, and behind them so many of this byte.
+fn data_of(alloc: Global, zeros: usize, count: usize, byte: u8) -> Result<Bytes, Fail> {
+    let mut data = Vec::new(alloc);
+    data.resize(zeros, 0)?;
+    data.resize(zeros.wrapping_add(count), byte)?;
+    Ok(Bytes::new(data))
+}
+
+// The list of SET TARGET PORT GROUPS by which a group is active/optimized.
+fn list_of(alloc: Global, group: &str) -> Result<Bytes, Fail> {
+    data_of(alloc, 7, 1, group.parse()?)
 }
 
 // What a command asks, and its data.
-fn asked(alloc: Global, asks: Asks) -> Result<(Asked, Bytes), Fail> {
-    let (cdb, data) = match asks {
-        Asks::Test => (&TEST, bytes_of(alloc, &[])?),
-        Asks::Set(group) => (&SET, bytes_of(alloc, list_of(group))?),
-        Asks::Write(byte) => (&WRITE, block_of(alloc, byte)?),
-        Asks::WriteFua(byte) => (&WRITE_FUA, block_of(alloc, byte)?),
-        Asks::WriteBeyond => (&WRITE_BEYOND, block_of(alloc, 0)?),
-        Asks::Synchronize => (&SYNCHRONIZE, bytes_of(alloc, &[])?),
+fn asked(alloc: Global, asks: &str) -> Result<(Asked, Bytes), Fail> {
+    let (word, byte) = words_of(asks);
+    let (cdb, zeros, count) = match word {
+        "test" => (&TEST, 0, 0),
+        "set" => (&SET, 7, 1),
+        "write" => (&WRITE, 0, 512),
+        "fua" => (&WRITE_FUA, 0, 512),
+        "beyond" => (&WRITE_BEYOND, 0, 512),
+        "synchronize" => (&SYNCHRONIZE, 0, 0),
+        _ => return Err("a command".into()),
     };
-    Ok((decode(cdb), Bytes::new(data)))
+    let data = data_of(alloc, zeros, count, byte.parse().unwrap_or(0))?;
+    Ok((decode(cdb), data))
 }
 
 // A session's command, which is handed in, or which its worker begins at once.
 fn command(
     alloc: Global,
-    (session, by_group, asks): (usize, Group, Asks),
     begins: bool,
+    session: usize,
+    words: &str,
     is_late: bool,
 ) -> Result<Event, Fail> {
+    let (number, asks) = words_of(words);
+    let by_group = group_of(number.parse()?);
     let (asked, bytes) = asked(alloc, asks)?;
     Ok(if begins {
         Event::Begin {
@@ -122,68 +128,71 @@ fn command(
     })
 }
 
-// A session's command that came to Moved, which is handed in once more, or which its worker begins so.
-fn once_more(session: usize, begins: bool, is_late: bool) -> Event {
-    if begins {
-        Event::BeginAgain { session, is_late }
-    } else {
-        Event::SubmitAgain { session, is_late }
-    }
+// The port of an ISID attaches to a unit through a group.
+fn attach(alloc: Global, place: usize, words: &str) -> Result<Event, Fail> {
+    let (isid, number) = words_of(words);
+    let name = Vec::from_slice(alloc, b"iqn.2000-01.test:a")?;
+    let port = PortName::new(name, isid.parse()?).ok_or("an ISID of six bytes")?;
+    let group = group_of(number.parse()?);
+    Ok(Event::Attach { place, port, group })
 }
 
-fn event_of(alloc: Global, act: Act) -> Result<Event, Fail> {
-    match act {
-        Act::Attach(place, isid, group) => {
-            let name = Vec::from_slice(alloc, b"iqn.2000-01.test:a")?;
-            let port = PortName::new(name, isid).ok_or("an ISID of six bytes")?;
-            Ok(Event::Attach { place, port, group })
-        }
-        Act::Detach(session) => Ok(Event::Detach { session }),
-        Act::Reset(session) => Ok(Event::Reset { session }),
-        Act::Move(place, group) => {
-            let list = Bytes::new(Vec::from_slice(alloc, list_of(group))?);
+// An event of a unit, of a desk, or of a command that begins.
+fn other_event(
+    alloc: Global,
+    verb: &str,
+    place: usize,
+    words: &str,
+    is_late: bool,
+) -> Result<Event, Fail> {
+    match verb {
+        "attach" => attach(alloc, place, words),
+        "move" => {
+            let list = list_of(alloc, words)?;
             Ok(Event::Move { place, list })
         }
-        Act::Submit(session, group, asks) => command(alloc, (session, group, asks), false, false),
-        Act::SubmitLate(session, group, asks) => command(
-            alloc,
-            (session, group, asks),
-            false,
-            true,
-        ),
-        Act::Again(session) => Ok(once_more(session, false, false)),
-        Act::AgainLate(session) => Ok(once_more(session, false, true)),
-        Act::Begin(session, group, asks) => command(alloc, (session, group, asks), true, false),
-        Act::BeginLate(session, group, asks) => command(alloc, (session, group, asks), true, true),
-        Act::BeginAgain(session) => Ok(once_more(session, true, false)),
-        Act::BeginAgainLate(session) => Ok(once_more(session, true, true)),
-        Act::TakeBack(session) => Ok(Event::TakeBack { session }),
-        Act::Close(group) => Ok(Event::Close { group }),
-        Act::Take(group) => Ok(Event::Take { group }),
-        Act::Serve(session) => Ok(Event::Serve { session }),
-        Act::Post(session) => Ok(Event::Post { session }),
-        Act::Collect(session) => Ok(Event::Collect { session }),
-        Act::Done(session) => Ok(Event::EndFlush {
-            session,
-            is_done: true,
+        "close" => Ok(Event::Close {
+            group: group_of(place),
         }),
-        Act::Failed(session) => Ok(Event::EndFlush {
-            session,
-            is_done: false,
+        "take" => Ok(Event::Take {
+            group: group_of(place),
         }),
+        "submit" => command(alloc, false, place, words, is_late),
+        "begin" => command(alloc, true, place, words, is_late),
+        _ => Err("an event".into()),
     }
 }
 
-fn put(alloc: Global, events: &mut Vec<Event>, act: Act) -> Result<(), Fail> {
-    events.push(event_of(alloc, act)?)?;
-    Ok(())
+fn event_of(alloc: Global, act: &str) -> Result<Event, Fail> {
+    let (verb, words) = words_of(act);
+    let (number, words) = words_of(words);
+    let session = number.parse()?;
+    let (verb, is_late) = match verb.strip_suffix("-late") {
+        Some(verb) => (verb, true),
+        None => (verb, false),
+    };
+    Ok(match verb {
+        "detach" => Event::Detach { session },
+        "reset" => Event::Reset { session },
+        "again" => Event::SubmitAgain { session, is_late },
+        "begin-again" => Event::BeginAgain { session, is_late },
+        "back" => Event::TakeBack { session },
+        "serve" => Event::Serve { session },
+        "post" => Event::Post { session },
+        "collect" => Event::Collect { session },
+        "done" | "failed" => Event::EndFlush {
+            session,
+            is_done: verb == "done",
+        },
+        _ => return other_event(alloc, verb, session, words, is_late),
+    })
 }
 
-/// The events of a row.
-pub fn events_of(alloc: Global, acts: &[Act]) -> Result<Vec<Event>, Fail> {
+/// The events of a row, with commas between.
+pub fn events_of(alloc: Global, acts: &str) -> Result<Vec<Event>, Fail> {
     let mut events = Vec::new(alloc);
-    for act in acts {
-        put(alloc, &mut events, *act)?;
+    for act in acts.split(',') {
+        events.push(event_of(alloc, act.trim())?)?;
     }
     Ok(events)
 }

@@ -1,27 +1,10 @@
 //! Three threads that use one unit: two that write, and one that reads its row.
-use crate::any_array::{Array, End, TOLD_OF_POWER_ON, attached, test, want};
+use crate::any_array::{Array, attached, want};
 use crate::runs::run;
 use crate::tales::Tale;
 use scsi_types::{Command, Group, PrOutAction};
 use std::test::Fail;
 use std::thread::{Threads, join};
-
-/// Two hosts of unit 0, which have taken their power on: four entries.
-fn two<S: Drop, A: Array<S>>(array: &A) -> Result<(S, S), Fail> {
-    let one = told_of_power_on(array, 1)?;
-    let two = told_of_power_on(array, 2)?;
-    Ok((one, two))
-}
-
-/// A host of unit 0, which has taken its power on.
-fn told_of_power_on<S: Drop, A: Array<S>>(array: &A, isid: u32) -> Result<S, Fail> {
-    let mut host = attached(array, 0, isid)?;
-    want(
-        test(array, &mut host, Group::One) == TOLD_OF_POWER_ON,
-        "the power on",
-    )?;
-    Ok(host)
-}
 
 /// So many commands a thread.
 const TIMES: u64 = 400;
@@ -36,7 +19,7 @@ fn registers<S, A: Array<S>>(array: &A, host: &mut S, key: u8) -> bool {
     };
     let mut list = [0; 24];
     list[15] = key;
-    array.ask(host, Group::One, command, &list) == End::Good
+    array.ask(host, Group::One, command, &list).word == "good"
 }
 
 /// A host registers and gives up its registration, again and again, so that each change makes the count of registrants odd or
@@ -89,7 +72,10 @@ pub fn are_watched<W: Threads + Sync, S: Send + Drop, A: Array<S> + Sync>(
     rt: &W,
     array: &A,
 ) -> Result<(), Fail> {
-    let (mut one, mut two) = two(array)?;
+    // Their attaches and their power on are four entries.
+    let (Some(mut one), Some(mut two)) = (attached(array, 1), attached(array, 2)) else {
+        return Err("two sessions".into());
+    };
     let is_right = are_right(rt, array, (&mut one, &mut two));
     want(
         is_right && shows_the_last(array),
