@@ -14,7 +14,7 @@
 
 pub fn scripts() -> &'static str {
     r#"
-iscsi-ls: discovery
+iscsi-ls: discovery; one unit
 # `iscsi-ls` asks which targets there are. CmdSN stays 643C9869h, as all is immediate; so MaxCmdSN is 643C9888h.
 A at 1
 A >> LOGIN 6:018B 8:808B45670000 16:327B23C6 24:643C9869 31:01
@@ -26,7 +26,7 @@ A >> LOGOUT 0:46 16:327B23C8 24:643C9869 31:03
 A << LOGGED_OUT 16:327B23C8 27:03 28:643C9869643C9888
 A over
 
-iscsi-ls: units
+iscsi-ls: units; one unit
 # `iscsi-ls -s` then asks at each portal which units the target has, and what they are. Its numbers are random too: here the same.
 A at 1
 A >> LOGIN 6:01B1 8:808B45670000 16:327B23C6 24:643C9869 31:01
@@ -53,7 +53,7 @@ A << GOOD 16:327B23CB 24:00000006643C986E643C988D00000001
 A cut 0 LOGOUT
 A over
 
-iscsi-inq, iscsi-readcapacity16
+iscsi-inq, iscsi-readcapacity16; one unit
 # `iscsi-inq` asks for the standard data, and with `-e 1 -c` for a page of vital product data; `iscsi-readcapacity16` for the long
 # capacity. Each is a session of its own; here one session asks for all.
 A at 1
@@ -83,7 +83,7 @@ A >> LOGOUT 0:46 16:327B23CD 24:643C986F00000008
 A << LOGGED_OUT 16:327B23CD 24:00000008643C986F643C988E
 A over
 
-a Linux host
+a Linux host; one unit
 # Tag, connection, CmdSN and ExpStatSN are all 0 at first; so ExpCmdSN is 0 and MaxCmdSN 31.
 A at 1
 A >> LOGIN 1:81 7:8E 8:00023D000000 16:00000000000000000000000000000000

@@ -2,7 +2,7 @@
 
 pub fn scripts() -> &'static str {
     r#"
-each controller goes down
+each controller goes down; one unit
 console status / down 1 / status / down 2 / status / x / quit =
  unit 0 owner 1 states 0 1 generation 0 keys 0 type 0 entries 0 /
  down /
@@ -10,14 +10,10 @@ console status / down 1 / status / down 2 / status / x / quit =
  down /
  unit 0 owner 1 states 0 3 generation 0 keys 0 type 0 entries 2 /
  ?
-"#
-}
 
-// Unit 1 cannot be opened anew. Controller 2 owns it from the start, so that `down 1` moves unit 0 alone. `down 2` moves unit 0 back;
-// unit 1 would have to follow, and stays, as its blocks do not open.
-pub fn a_unit_that_stays() -> &'static str {
-    r#"
-a unit whose blocks do not open stays
+a unit whose blocks do not open stays; no open
+# Unit 1 cannot be opened anew. Controller 2 owns it from the start, so that `down 1` moves unit 0 alone. `down 2` moves unit 0 back;
+# unit 1 would have to follow, and stays, as its blocks do not open.
 console down 1 / down 2 = down / not moved 1
 "#
 }

@@ -4,16 +4,16 @@ pub fn scripts() -> &'static str {
     r#"
 a unit that does not answer
 # A's command waits before unit 1; meanwhile B is served by unit 0, and C logs in.
-A comes 1 HOST_A / WELCOME
+A comes 1 / HOST_A / WELCOME
 A power 9:01
-B comes 2 HOST_B / 15:02 WELCOME_2
+B comes 2 / HOST_B / 15:02 WELCOME_2
 B power
 gate hold 1
 A > TEST_UNIT_READY 9:01
 gate held 1
 B does WRITE 5:000200 pattern 512
 B reads 20:00000200 32:28000000000500000100 / 5:000200 pattern 512
-C comes 1 HOST_B / 15:03 WELCOME
+C comes 1 / HOST_B / 15:03 WELCOME
 C power
 gate open
 A < GOOD
@@ -21,7 +21,7 @@ A < GOOD
 a device that hangs
 # A's write hangs in the device of unit 0; meanwhile B is served by unit 1.
 A alone
-B comes 2 HOST_B / 15:02 WELCOME_2
+B comes 2 / HOST_B / 15:02 WELCOME_2
 B power 9:01
 disk hold 0
 A > WRITE 5:000200 pattern 512
@@ -36,7 +36,7 @@ a desk with writes of a unit whose device hangs
 # first that reaches its device hangs there; meanwhile B is served by unit 1, and unit 0's row is read.
 8 enter 1 LOGIN 7:56 HOST_A
 all power
-B comes 2 HOST_B / 15:09 WELCOME_2
+B comes 2 / HOST_B / 15:09 WELCOME_2
 B power 9:01
 B does WRITE 9:01 7:08 20:00000008 32:A40A00000000000000080000 0000000000000001
 gate hold 0
@@ -57,9 +57,9 @@ short commands behind a write that hangs
 # the desk's queue at a time. Meanwhile B's go by way of the queue of the same desk, and are served by unit 1.
 8 enter 1 LOGIN 7:56 HOST_A
 all power
-A comes 1 HOST_B / 15:09 WELCOME
+A comes 1 / HOST_B / 15:09 WELCOME
 A power
-B comes 2 HOST_B / 15:0A WELCOME_2
+B comes 2 / HOST_B / 15:0A WELCOME_2
 B power 9:01
 B does WRITE 9:01 7:08 20:00000008 32:A40A00000000000000080000 0000000000000001
 disk hold 0

@@ -2,7 +2,7 @@
 
 pub fn scripts() -> &'static str {
     r#"
-a login of one request, and a logout
+a login of one request, and a logout; one unit
 # 88 bytes of text with their padding.
 A at 1
 A >> LOGIN 7:56 HOST_A
@@ -11,7 +11,7 @@ A << LOGGED_IN 7:36 WELCOME
 A << LOGGED_OUT 19:02 27:02
 A over
 
-a login of two requests, the power on, and a logout
+a login of two requests, the power on, and a logout; one unit
 # Of stage 0 first, then of stage 1, where the names come again and stand no more for anything.
 A at 1
 A >> LOGIN 1:81 7:66 HOST_A "AuthMethod=None\0"
@@ -26,14 +26,14 @@ A << CHECK_CONDITION 27:03 0012700006000000000A00000000290000000000
 A << LOGGED_OUT 19:02 24:000000040000000300000022
 A over
 
-the longest name and the greatest ISID
+the longest name and the greatest ISID; one unit
 A at 1
 A >> LOGIN 6:0110 8:FFFFFFFFFFFF "TargetName=iqn.2000-01.test:array\0InitiatorName=" 223*61 1*00
 A >> TEST_UNIT_READY 31:02
 A << LOGGED_IN 7:36 8:FFFFFFFFFFFF WELCOME
 A << CHECK_CONDITION 27:02 0012700006000000000A00000000290000000000
 
-a whole life
+a whole life; one unit
 # The lengths that the login asks for: Data-In of 3072 bytes at most, bursts of 4096, and 1024 with a command. The first
 # command is told of the power on. WRITE (10) is of the last 16 blocks, of whose 8192 bytes 1024 come with it, 4096 for the
 # first R2T, with F behind all of it, and 3072 for the second; MaxCmdSN is one less while it waits. READ (10) of the same
@@ -80,7 +80,7 @@ A >> LOGOUT 19:09 24:000000090000000A
 A << LOGGED_OUT 19:09 24:0000000A0000000A00000029
 A over
 
-a command in a discovery session
+a command in a discovery session; one unit
 # It serves none.
 A at 1
 A >> LOGIN 7:37 FINDS
@@ -89,37 +89,37 @@ A >> TEST_UNIT_READY 31:02
 A << REJECT 2:04 27:02 rejected TEST_UNIT_READY 31:02
 A over
 
-logins that name a session
+logins that name a session; one unit
 # That of OTHER_HOST lives, of ISID 0 and TSIH 1. A is another connection for it, which would take a second connection of a session;
 # the others name it by another ISID or another name, or name one that is not there. None of them uses up a TSIH, and C begins a session.
 O at 1
 O > LOGIN 7:5A 8:000000000000 OTHER_HOST
 O < LOGGED_IN 7:36 8:0000000000000001 WELCOME
-A refused 1 7:5A 8:0000000000000001 OTHER_HOST / 8:0000000000000001 36:0206
-I refused 1 7:5A 8:0000000000010001 OTHER_HOST / 8:0000000000010001 36:020A
-N refused 1 7:56 8:0000000000000001 HOST_A / 8:0000000000000001 36:020A
-T refused 1 7:5A 8:0000000000000002 OTHER_HOST / 8:0000000000000002 36:020A
-C comes 1 HOST_A / 15:02 WELCOME
+A refused 1 / 7:5A 8:0000000000000001 OTHER_HOST / 8:0000000000000001 36:0206
+I refused 1 / 7:5A 8:0000000000010001 OTHER_HOST / 8:0000000000010001 36:020A
+N refused 1 / 7:56 8:0000000000000001 HOST_A / 8:0000000000000001 36:020A
+T refused 1 / 7:5A 8:0000000000000002 OTHER_HOST / 8:0000000000000002 36:020A
+C comes 1 / HOST_A / 15:02 WELCOME
 C power
 
-the same name and ISID before a write's last data
+the same name and ISID before a write's last data; one unit
 # WRITE (10) of block 5, whose data is asked for by R2T when B takes the place of A (RFC 7143, 6.3.5). It is not done: B reads zeros.
 A alone
 A > WRITE
 A < R2T
-B comes 1 HOST_A / 15:02 WELCOME
+B comes 1 / HOST_A / 15:02 WELCOME
 A over
 B power
 B reads 20:00000200 32:28000000000500000100 / 5:000200 512*00
 
-another ISID, and another name
+another ISID, and another name; one unit
 # Beside the session of A, by the same portal: all three live.
 A alone
 I at 1
 I > LOGIN 7:56 13:01 HOST_A
 I < LOGGED_IN 7:36 13:010002 WELCOME
 I power
-N comes 1 HOST_B / 15:03 WELCOME
+N comes 1 / HOST_B / 15:03 WELCOME
 N power
 I > LOGOUT
 I < LOGGED_OUT

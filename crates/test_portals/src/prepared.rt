@@ -8,24 +8,34 @@ use disk_preparer::{BlockMemory, Preparer};
 use portal::{Disks, Gate, Pass, Prepared};
 use scsi_types::{Asked, Command};
 use std::alloc::Global;
+use std::process::Abort;
 use std::sync::Arc;
 use std::sync::atomic::{AtomicU64, Ordering};
 use std::test::*;
 
-/// How often it was asked what it wants, a disk was flushed, and blocks of it were fetched.
-#[derive(Drop)]
-struct Counts {
-    wanted: AtomicU64,
-    flushed: AtomicU64,
-    fetched: AtomicU64,
-}
+/// What is counted of a disk: how often it was asked what it wants, blocks of it were fetched, and it was flushed. These are digits in
+/// hexadecimal of one number, three a disk.
+const WANTED: u64 = 0x1;
+
+const FETCHED: u64 = 0x10;
+
+const FLUSHED: u64 = 0x100;
 
 /// The preparer of a disk, which flushes or does not, and whose flushes end well or do not.
 #[derive(Drop)]
 struct Counted {
-    counts: Arc<Counts, Global>,
+    counts: Arc<AtomicU64, Global>,
+    // The number of the lowest of its digits.
+    digit: u64,
     flushes: bool,
     is_done: bool,
+}
+
+impl Counted {
+    fn count(&self, what: u64) {
+        let more = what.wrapping_mul(self.digit);
+        let _ = self.counts.fetch_add(more, Ordering::Relaxed);
+    }
 }
 
 impl Preparer for Counted {
@@ -44,12 +54,12 @@ impl Preparer for Counted {
     fn advise_edges(&self, _first: u64, _blocks: u16) {}
 
     fn wants(&self, serial: u64) -> bool {
-        self.counts.wanted.fetch_add(1, Ordering::Relaxed);
+        self.count(WANTED);
         serial == 7
     }
 
     fn fetch(&self, _first: u64, _blocks: u16) {
-        self.counts.fetched.fetch_add(1, Ordering::Relaxed);
+        self.count(FETCHED);
     }
 
     fn fetch_edges(&self, _first: u64, _blocks: u16) {}
@@ -63,7 +73,7 @@ impl Preparer for Counted {
     }
 
     fn flush(&self) -> bool {
-        self.counts.flushed.fetch_add(1, Ordering::Relaxed);
+        self.count(FLUSHED);
         self.is_done
     }
 }
@@ -97,24 +107,23 @@ impl Pass for At {
 // The preparers of three disks: a flush of the first ends well, one of the second fails, and the third is not flushed.
 const DISKS: [(bool, bool); 3] = [(true, true), (true, false), (false, true)];
 
-fn disks(alloc: Global) -> Result<(Vec<Counted>, Vec<Arc<Counts, Global>>), Fail> {
+// The gate before them.
+fn gate(
+    alloc: Global,
+    counts: &Arc<AtomicU64, Global>,
+) -> Result<Prepared<Counted, Nameless>, Fail> {
     let mut of = Vec::new(alloc);
-    let mut seen = Vec::new(alloc);
+    let mut digit: u64 = 1;
     for (flushes, is_done) in &DISKS {
-        let counts = Counts {
-            wanted: AtomicU64::new(0),
-            flushed: AtomicU64::new(0),
-            fetched: AtomicU64::new(0),
-        };
-        let counts = Arc::new(alloc, counts)?;
-        seen.push(Arc::try_clone(&counts)?)?;
         of.push(Counted {
-            counts,
+            counts: Arc::try_clone(counts)?,
+            digit,
             flushes: *flushes,
             is_done: *is_done,
         })?;
+        digit = digit.wrapping_mul(0x1000);
     }
-    Ok((of, seen))
+    Ok(Prepared::<Counted, Nameless>::new(of))
 }
 
 // A READ of the first block.
@@ -126,48 +135,38 @@ fn read(fua: bool) -> Asked {
     })
 }
 
-#[test]
-fn each_unit_has_its_own_disk_made_ready_and_flushed(rt: HostRuntime) -> Result<(), Fail> {
-    let (of, seen) = disks(rt.alloc())?;
-    let gate = Prepared::<Counted, Nameless>::new(of);
-    // One that comes from the medium; any other is read beside its unit (`Gate::read`).
-    let read = read(true);
-    for (unit, (settles, is_done)) in &[
-        (0, (true, true)),
-        (1, (true, false)),
-        (2, (false, true)),
-        (3, (false, false)),
+// Each unit is flushed by its own disk, where that flushes, and a fourth one by none.
+fn settle<G: Gate>(rt: &impl Abort, gate: &G) {
+    for (unit, settles, is_done) in &[
+        (0, true, true),
+        (1, true, false),
+        (2, false, true),
+        (3, false, false),
     ] {
-        must(&rt, gate.flushes_behind(*unit) == *settles, "settles", unit);
+        must(rt, gate.flushes_behind(*unit) == *settles, "settles", unit);
         let has_settled = gate.flush_behind(&At { place: *unit });
-        must(&rt, has_settled == *is_done, "has settled", unit);
+        must(rt, has_settled == *is_done, "has settled", unit);
     }
-    must(&rt, !gate.wants_prefetch(), "the gate", &"wants prefetch");
-    gate.fetch(1, 7, &read);
-    gate.fetch(0, 8, &read);
-    gate.fetch(3, 7, &read);
-    let mut counts = seen.iter();
-    for fetched in &[0, 1, 0] {
-        let disk = counts.next().expect(&rt, "a disk");
-        let flushed = disk.flushed.load(Ordering::Relaxed);
-        must(&rt, flushed == 1, "flushed", &flushed);
-        let has_fetched = disk.fetched.load(Ordering::Relaxed);
-        must(&rt, has_fetched == *fetched, "fetched", &has_fetched);
-    }
-    Ok(())
+    must(rt, !gate.wants_prefetch(), "the gate", &"wants prefetch");
+}
+
+// The preparer of a READ wants blocks where it has serial 7. One that does not come from the medium is read beside its unit, too
+// (`Gate::read`), and asked once.
+fn fetch<G: Gate>(alloc: Global, gate: &G) {
+    gate.fetch(1, 7, &read(true));
+    gate.fetch(0, 8, &read(true));
+    gate.fetch(3, 7, &read(true));
+    gate.fetch(2, 7, &read(false));
+    let _room = gate.read(2, 7, &read(false), ReplyMemory::new(alloc));
 }
 
 #[test]
-fn what_is_wanted_of_a_read_is_asked_once(rt: HostRuntime) -> Result<(), Fail> {
-    let (of, seen) = disks(rt.alloc())?;
-    let gate = Prepared::<Counted, Nameless>::new(of);
-    let read = read(false);
-    gate.fetch(0, 7, &read);
-    let _room = gate.read(0, 7, &read, ReplyMemory::new(rt.alloc()));
-    let disk = seen.first().expect(&rt, "a disk");
-    let wanted = disk.wanted.load(Ordering::Relaxed);
-    must(&rt, wanted == 1, "asked", &wanted);
-    let fetched = disk.fetched.load(Ordering::Relaxed);
-    must(&rt, fetched == 1, "fetched", &fetched);
+fn each_unit_has_its_own_disk_made_ready_and_flushed(rt: HostRuntime) -> Result<(), Fail> {
+    let counts = Arc::new(rt.alloc(), AtomicU64::new(0))?;
+    let gate = gate(rt.alloc(), &counts)?;
+    settle(&rt, &gate);
+    fetch(rt.alloc(), &gate);
+    let counted = counts.load(Ordering::Relaxed);
+    must(&rt, counted == 0x111_111_101, "counted", &counted);
     Ok(())
 }

@@ -10,13 +10,13 @@ use std::time::Duration;
 
 pub fn script() -> &'static str {
     r#"
-a host that is silent
+a host that is silent; accepts that fail
 # A read of the array's finds nothing for ten seconds, and the session lives on.
 A alone
 clock 11
 A does TEST_UNIT_READY
 # Meanwhile no connection has waited at controller 2.
-B comes 2 HOST_B / 15:02 WELCOME_2
+B comes 2 / HOST_B / 15:02 WELCOME_2
 B power
 B does TEST_UNIT_READY
 "#

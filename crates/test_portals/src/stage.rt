@@ -1,10 +1,11 @@
 //! The scripts of the tests, a line for what an initiator does or is answered:
 //!
 //! - `A at 1`: it connects to the portal of controller 1, and is called `A` from then on;
-//! - `A comes 2 HOST_A / 15:02 WELCOME_2`: it connects to the portal of controller 2, logs in by this text, and is answered by that;
-//! - `A refused 1 7:56 HOST_A / 36:0302`: its login by the portal of controller 1 is refused so, and the target closes the connection;
+//! - `A comes 2 / HOST_A / 15:02 WELCOME_2`: it connects to the portal of controller 2, logs in by this text, and is answered by that;
+//! - `A refused 1 / 7:56 HOST_A / 36:0302`: its login by the portal of controller 1 is refused so, and the target closes the connection;
 //! - `A power 9:01`: unit 1 tells it that power came on, and `all power`: unit 0 tells all connections that entered;
 //! - `A alone`: A comes to controller 1, and unit 0 tells it that power came on; `A and B`: so does B then, at controller 2;
+//! - `20 times LINE`: this line so often;
 //! - `A > PDU`: it sends this PDU, and `A < PDU`: this PDU comes. `test_connections` says how a PDU is spelled (`pdu_of`). Behind a
 //!   login requests are numbered as they go, and of answers the numbers of the session are not compared;
 //! - `A < PDU / PDU`: one of these comes;
@@ -37,7 +38,8 @@ use crate::scene::{Place, Scene};
 use std::alloc::{AllocError, Global};
 use std::io::Eprint;
 use std::process::Abort;
-use test_connections::{Host, host_texts, is_text, lines_of, pdu_of, put_number};
+use std::test::Fail;
+use test_connections::{Host, filled, host_texts, is_text, lines_of, pdu_of, put_number};
 
 /// The hosts of a script, and the array that they reach.
 #[derive(Drop)]
@@ -49,7 +51,8 @@ pub struct Stage<'a, R, S> {
     piece: usize,
     // What the lines name.
     texts: Vec<(&'static str, &'static str)>,
-    names: Vec<&'a str>,
+    // The first letter of each.
+    names: Vec<u8>,
     // In the order of their names.
     hosts: Vec<Host>,
     crowd: Vec<Host>,
@@ -58,8 +61,77 @@ pub struct Stage<'a, R, S> {
 /// So many seconds a row is waited for.
 const PATIENCE: u32 = 20;
 
-/// What a unit tells of the power.
-const POWER_ON: &str = "CHECK_CONDITION 0012 70000600000000 0A00000000 2900 00000000";
+// A host logs in by a controller, or is refused: how it asks, and what it is answered.
+const COMES: &str = "[0] at [1]
+[0] > LOGIN 7:56 [2]
+[0] < LOGGED_IN 7:36 [3]";
+
+const REFUSED: &str = "[0] at [1]
+[0] > LOGIN [2]
+[0] < LOGIN_REFUSED [3]
+[0] over";
+
+// A host sends a command, and GOOD comes.
+const DOES: &str = "[0] > [1]
+[0] < GOOD";
+
+// It reads: how the command goes on, and how its one Data-In does.
+const READS: &str = "[0] > COMMAND 1:C1 [1]
+[0] < DATA_IN [2]
+[0] < GOOD 36:00000001";
+
+// A unit tells it of the power.
+const POWER: &str = "[0] > TEST_UNIT_READY [1]
+[0] < CHECK_CONDITION 0012 70000600000000 0A00000000 2900 00000000";
+
+// It comes to controller 1, and is told; so is another one then, at controller 2.
+const ALONE: &str = "[0] at 1
+[0] > LOGIN 7:56 HOST_A
+[0] < LOGGED_IN 7:36 WELCOME
+[0] > TEST_UNIT_READY
+[0] < CHECK_CONDITION 0012 70000600000000 0A00000000 2900 00000000";
+
+const BOTH: &str = "[0] at 1
+[0] > LOGIN 7:56 HOST_A
+[0] < LOGGED_IN 7:36 WELCOME
+[0] > TEST_UNIT_READY
+[0] < CHECK_CONDITION 0012 70000600000000 0A00000000 2900 00000000
+[1] at 2
+[1] > LOGIN 7:56 HOST_B
+[1] < LOGGED_IN 7:36 15:02 WELCOME_2
+[1] > TEST_UNIT_READY
+[1] < CHECK_CONDITION 0012 70000600000000 0A00000000 2900 00000000";
+
+// The form of the lines for which one of this verb stands: none, where it stands for itself.
+fn form_of(verb: &str) -> &'static str {
+    match verb {
+        "alone" => ALONE,
+        "and" => BOTH,
+        "comes" => COMES,
+        "refused" => REFUSED,
+        "does" => DOES,
+        "reads" => READS,
+        "power" => POWER,
+        _ => "",
+    }
+}
+
+// The lines for which one line stands.
+fn expanded(alloc: Global, line: &str) -> Result<String, Fail> {
+    let (who, words) = split(line);
+    let (verb, rest) = split(words);
+    let form = form_of(verb);
+    if form.is_empty() {
+        return Ok(String::from_str(alloc, line)?);
+    }
+    let parts = format!(in alloc; "{who};{rest}")?.replace(alloc, " / ", ";")?;
+    Ok(filled(alloc, form, parts.as_str().trim_end_matches(';'))?)
+}
+
+// A word, and what stands behind it.
+fn split(line: &str) -> (&str, &str) {
+    line.split_once(' ').unwrap_or((line, ""))
+}
 
 // What initiators are told of the target: both portals, each with the tag of its group (RFC 7143, appendix C).
 fn told(alloc: Global, ports: [u16; 2]) -> Result<String, AllocError> {
@@ -100,27 +172,21 @@ impl<'a, R: Abort + Eprint, S: Scene> Stage<'a, R, S> {
         let lines = lines_of(self.alloc, text).expect(self.at.rt, "memory");
         self.at.check(!lines.is_empty(), &"a script has lines");
         for line in &lines {
-            self.obey_shorthand(line);
-        }
-    }
-
-    // A line that may stand for several.
-    fn obey_shorthand(&mut self, line: &'a str) {
-        self.at.line = line;
-        match line {
-            "A alone" => self.begin("A", "1 HOST_A / WELCOME"),
-            "A and B" => {
-                self.begin("A", "1 HOST_A / WELCOME");
-                self.begin("B", "2 HOST_B / 15:02 WELCOME_2");
+            self.at.line = *line;
+            let (times, line) = line.split_once(" times ").unwrap_or(("1", line));
+            for _ in 0..self.number(times) {
+                self.obey_each(line);
             }
-            _ => self.obey(line),
         }
     }
 
-    // A host comes, and is told of the power.
-    fn begin(&mut self, name: &'a str, words: &str) {
-        self.come(name, words);
-        self.hear_of_power(name, "");
+    // Obeys the lines for which one line stands.
+    fn obey_each(&mut self, line: &str) {
+        let text = self.at.must(expanded(self.alloc, line));
+        let lines = lines_of(self.alloc, text.as_str()).expect(self.at.rt, "memory");
+        for line in &lines {
+            self.obey(line);
+        }
     }
 
     /// The hosts, as they are behind it.
@@ -128,19 +194,22 @@ impl<'a, R: Abort + Eprint, S: Scene> Stage<'a, R, S> {
         self.hosts
     }
 
+    // The place of the host of this name.
+    fn place(&self, name: &str) -> usize {
+        let letter = name.as_bytes().first().copied().unwrap_or(0);
+        let place = self.names.iter().position(|other| *other == letter);
+        place.expect(self.at.rt, "a host")
+    }
+
     // The host of this name.
     fn host(&mut self, name: &str) -> &mut Host {
-        let place = self
-            .names
-            .iter()
-            .position(|n| *n == name)
-            .expect(self.at.rt, "a host");
+        let place = self.place(name);
         self.hosts.get_mut(place).expect(self.at.rt, "a host")
     }
 
-    fn obey(&mut self, line: &'a str) {
-        let (who, words) = line.split_once(' ').unwrap_or((line, ""));
-        let (verb, rest) = words.split_once(' ').unwrap_or((words, ""));
+    fn obey(&mut self, line: &str) {
+        let (who, words) = split(line);
+        let (verb, rest) = split(words);
         match who {
             "console" => self.compare_answers(words),
             "gate" | "disk" | "flush" | "desks" => self.obey_behind(who, verb, rest),
@@ -172,23 +241,14 @@ impl<'a, R: Abort + Eprint, S: Scene> Stage<'a, R, S> {
             ">" => self.send_all(rest),
             "<" => self.compare_all(rest),
             "leave" => self.leave(rest),
-            "power" => {
-                self.send_all("TEST_UNIT_READY");
-                self.compare_all(POWER_ON);
-            }
             _ => self.at.stop("a verb"),
         }
     }
 
     // A line for one host.
-    fn obey_host(&mut self, who: &'a str, verb: &str, rest: &str) {
+    fn obey_host(&mut self, who: &str, verb: &str, rest: &str) {
         match verb {
             "at" => self.connect(who, rest),
-            "comes" => self.come(who, rest),
-            "refused" => {
-                self.log_in(who, rest, ["LOGIN", "LOGIN_REFUSED"]);
-                self.end(who);
-            }
             ">" => self.send(who, rest),
             "<" => self.compare(who, rest),
             ">>" => self.send_as_is(who, rest),
@@ -197,16 +257,13 @@ impl<'a, R: Abort + Eprint, S: Scene> Stage<'a, R, S> {
             "cut" => self.cut(who, rest),
             "told" => self.compare_text(who),
             "over" => self.end(who),
-            "power" => self.hear_of_power(who, rest),
             _ => self.obey_other(who, verb, rest),
         }
     }
 
-    // A line for what a host does or reads at once, for two hosts, for those that enter, or for the row of a unit.
+    // A line for two hosts, for those that enter, for one that leaves, or for the row of a unit.
     fn obey_other(&mut self, who: &str, verb: &str, rest: &str) {
         match verb {
-            "does" => self.get_done(who, rest),
-            "reads" => self.read(who, rest),
             "race" => self.race(rest),
             "enter" => self.enter(who, rest),
             "wait" => self.wait(who, rest),
@@ -266,50 +323,12 @@ impl<'a, R: Abort + Eprint, S: Scene> Stage<'a, R, S> {
         self.at.must(self.scene.connect(controller))
     }
 
-    fn connect(&mut self, name: &'a str, controller: &str) {
+    fn connect(&mut self, name: &str, controller: &str) {
         let mut host = self.connected(controller);
         self.at.must(host.send_in_pieces(self.piece));
-        self.names.push(name).expect(self.at.rt, "memory");
+        let letter = name.as_bytes().first().copied().unwrap_or(0);
+        self.names.push(letter).expect(self.at.rt, "memory");
         self.hosts.push(host).expect(self.at.rt, "memory");
-    }
-
-    fn come(&mut self, name: &'a str, words: &str) {
-        self.log_in(name, words, ["LOGIN 7:56", "LOGGED_IN 7:36"]);
-    }
-
-    // A host logs in by a controller, and is answered: how both PDUs begin.
-    fn log_in(&mut self, name: &'a str, words: &str, begins: [&str; 2]) {
-        let [request, response] = begins;
-        let (controller, texts) = words.split_once(' ').unwrap_or((words, ""));
-        let (login, answer) = texts.split_once(" / ").unwrap_or((texts, ""));
-        self.connect(name, controller);
-        let login = format!(in self.alloc; "{request} {login}").expect(self.at.rt, "memory");
-        self.send(name, login.as_str());
-        let answer = format!(in self.alloc; "{response} {answer}").expect(self.at.rt, "memory");
-        self.compare(name, answer.as_str());
-    }
-
-    // A host sends this, and GOOD comes.
-    fn get_done(&mut self, name: &str, line: &str) {
-        self.send(name, line);
-        self.compare(name, "GOOD");
-    }
-
-    // A host reads by a command: how the command goes on, and how its one Data-In does.
-    fn read(&mut self, name: &str, words: &str) {
-        let (command, data) = words.split_once(" / ").unwrap_or((words, ""));
-        let command = format!(in self.alloc; "COMMAND 1:C1 {command}").expect(self.at.rt, "memory");
-        self.send(name, command.as_str());
-        let data = format!(in self.alloc; "DATA_IN {data}").expect(self.at.rt, "memory");
-        self.compare(name, data.as_str());
-        self.compare(name, "GOOD 36:00000001");
-    }
-
-    // The unit of a LUN tells a host that power came on.
-    fn hear_of_power(&mut self, name: &str, lun: &str) {
-        let asked = format!(in self.alloc; "TEST_UNIT_READY {lun}").expect(self.at.rt, "memory");
-        self.send(name, asked.as_str());
-        self.compare(name, POWER_ON);
     }
 
     fn send(&mut self, name: &str, line: &str) {
@@ -331,7 +350,7 @@ impl<'a, R: Abort + Eprint, S: Scene> Stage<'a, R, S> {
     }
 
     fn cut(&mut self, name: &str, line: &str) {
-        let (length, line) = line.split_once(' ').unwrap_or((line, ""));
+        let (length, line) = split(line);
         let length = self.number(length) as usize;
         let pdu = self.spelled(line);
         let part = pdu
@@ -409,7 +428,7 @@ impl<'a, R: Abort + Eprint, S: Scene> Stage<'a, R, S> {
     }
 
     fn enter(&mut self, count: &str, line: &str) {
-        let (controller, line) = line.split_once(' ').unwrap_or((line, ""));
+        let (controller, line) = split(line);
         let mut pdu = self.spelled(line);
         for number in 0..self.number(count) {
             put_number(pdu.as_mut_slice(), 10, 0x0137_0100 | number);
@@ -433,14 +452,9 @@ impl<'a, R: Abort + Eprint, S: Scene> Stage<'a, R, S> {
     }
 
     fn drop_host(&mut self, name: &str) {
-        let place = self
-            .names
-            .iter()
-            .position(|n| *n == name)
-            .expect(self.at.rt, "a host");
-        self.names.remove(place);
-        self.at.check(place < self.hosts.len(), &"a host");
-        if place < self.hosts.len() {
+        let place = self.place(name);
+        if place < self.names.len() && place < self.hosts.len() {
+            self.names.remove(place);
             drop(self.hosts.remove(place));
         }
     }

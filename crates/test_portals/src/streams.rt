@@ -10,7 +10,7 @@ A pieces 7
 A > LOGIN 7:6C HOST_A "MaxBurstLength=262144\0"
 A < LOGGED_IN 7:4C WELCOME "MaxBurstLength=262144\0"
 A power
-B comes 2 HOST_B / 15:02 WELCOME_2
+B comes 2 / HOST_B / 15:02 WELCOME_2
 B power
 A > WRITE 5:002000 20:00100000 32:2A000000000000080000 pattern 8192
 A < R2T 20:00000000 36:000000000000200000040000
@@ -88,12 +88,12 @@ A cut 47 TEST_UNIT_READY 16:00000006 24:0000000300000006
 A over
 B cut 47 TEST_UNIT_READY 16:00000005 24:0000000200000005
 B over
-C comes 1 HOST_A / 15:03 WELCOME
+C comes 1 / HOST_A / 15:03 WELCOME
 C >> TEST_UNIT_READY 0:41 28:00000002
 C << CHECK_CONDITION 24:000000020000000100000020 0012 70000600000000 0A00000000 2900 00000000
 C >> TEST_UNIT_READY 16:00000002 28:00000003
 C << GOOD 16:00000002 24:000000030000000200000021
-D comes 2 HOST_B / 15:04 WELCOME_2
+D comes 2 / HOST_B / 15:04 WELCOME_2
 D >> TEST_UNIT_READY 0:41 28:00000002
 D << CHECK_CONDITION 24:000000020000000100000020 0012 70000600000000 0A00000000 2900 00000000
 D >> TEST_UNIT_READY 16:00000002 28:00000003
@@ -101,9 +101,9 @@ D << GOOD 16:00000002 24:000000030000000200000021
 
 refused logins
 # Another target's name, and no InitiatorName.
-A refused 1 7:56 "InitiatorName=iqn.2000-01.test:a\0TargetName=iqn.2000-01.test:other\0SessionType=Normal\0" / 36:0203
-B refused 2 7:56 "InitiatorName=iqn.2000-01.test:b\0TargetName=iqn.2000-01.test:other\0SessionType=Normal\0" / 36:0203
-C refused 1 7:35 "TargetName=iqn.2000-01.test:array\0SessionType=Normal\0" / 36:0207
-D refused 2 7:35 "TargetName=iqn.2000-01.test:array\0SessionType=Normal\0" / 36:0207
+A refused 1 / 7:56 "InitiatorName=iqn.2000-01.test:a\0TargetName=iqn.2000-01.test:other\0SessionType=Normal\0" / 36:0203
+B refused 2 / 7:56 "InitiatorName=iqn.2000-01.test:b\0TargetName=iqn.2000-01.test:other\0SessionType=Normal\0" / 36:0203
+C refused 1 / 7:35 "TargetName=iqn.2000-01.test:array\0SessionType=Normal\0" / 36:0207
+D refused 2 / 7:35 "TargetName=iqn.2000-01.test:array\0SessionType=Normal\0" / 36:0207
 "#
 }

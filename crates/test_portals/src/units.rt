@@ -78,14 +78,34 @@ pub struct Faults {
 }
 
 impl Faults {
+    /// What fails by these words: nothing, where there are none.
+    pub fn of(words: &str) -> Faults {
+        match words {
+            "the third block fails" => Faults {
+                passed: 0,
+                landed: 2,
+                ..NO_FAULTS
+            },
+            "no open" => Faults {
+                opened: 0,
+                ..NO_FAULTS
+            },
+            "the fourth call of a save fails" => Faults {
+                saving: 3,
+                ..NO_FAULTS
+            },
+            _ => NO_FAULTS,
+        }
+    }
+
     /// So many calls of its registration file's device pass, those that open it among them.
     pub fn registration_calls(&self) -> u64 {
         self.saving.saturating_add(OPEN_CALLS)
     }
 }
 
-/// Nothing fails.
-pub const NO_FAULTS: Faults = Faults {
+// Nothing fails.
+const NO_FAULTS: Faults = Faults {
     passed: u64::MAX,
     landed: 0,
     saving: u64::MAX,

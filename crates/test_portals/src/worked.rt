@@ -89,7 +89,7 @@ worked examples: reservations
 1 enter 1 LOGIN 7:56 HOST_B
 1 enter 2 LOGIN 7:56 HOST_B
 all power
-A comes 1 HOST_A / 15:03 WELCOME
+A comes 1 / HOST_A / 15:03 WELCOME
 A power
 all > COMMAND 1:C1 20:00000008 32:5E020000000000000800
 all < DATA_IN 7:08 00080580 EA010000
