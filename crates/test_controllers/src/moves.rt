@@ -14,13 +14,13 @@ send-1 0 test = check 062900
 send-1 1 test = check 062900
 send-1 1 set = good
 send-2 1 report = good 00000018 810F0001 00010001 00000001 000F0002 00010001 00000002
-row 0 = 2 1 0 6
+board 0 = 2 1 0 6
 send-1 0 test = moved 2
 send-2 0 test = check 062A06
 send-2 0 read = good 512*00
 send-2 1 test = good
-row 0 = 2 1 0 9
-row 1 = 2 1 0 0
+board 0 = 2 1 0 9
+board 1 = 2 1 0 0
 
 an owner that is not opened; 0 9
 # The same where the blocks cannot be opened for the new owner: nothing has changed.
@@ -33,7 +33,7 @@ send-1 1 report = good 00000018 800F0001 00000001 00000001 010F0002 00000001 000
 send-1 0 test = good
 send-1 0 read = good 512*00
 move 0 2 = unopened
-row 0 = 1 0 1 8
+board 0 = 1 0 1 8
 
 the array moves a unit; 9 9
 # By itself, and every session is told.
@@ -42,7 +42,7 @@ send-1 0 test = check 062900
 move 0 none = list
 move 0 short = length
 move 0 2 = done
-row 0 = 2 1 0 3
+board 0 = 2 1 0 3
 send-2 0 test = check 062A06
 send-2 0 read = good 512*00
 
@@ -51,27 +51,27 @@ each controller goes down; 9 9
 attach 0 1 = done
 send-1 0 test = check 062900
 down 1 = done
-row 0 = 2 3 0 3
-row 1 = 2 3 0 1
+board 0 = 2 3 0 3
+board 1 = 2 3 0 1
 send-2 0 test = check 062A06
 send-2 0 read = check 02040C
 down 2 = done
-row 0 = 1 0 3 6
-row 1 = 1 0 3 2
+board 0 = 1 0 3 6
+board 1 = 1 0 3 2
 
 what moved stays moved; 9 0
 # Unit 1 cannot be opened for another owner: group 2 owns it, so that controller 1 goes down. Controller 2 does not: unit 0 is moved
 # and stays so, and unit 1 is told.
 down 1 = done
 down 2 = unopened 1
-row 0 = 1 0 3 2
-row 1 = 2 3 0 1
+board 0 = 1 0 3 2
+board 1 = 2 3 0 1
 
 the first that does not move ends it; 0 9
 # Unit 0 cannot: it is told, and unit 1 is not asked.
 down 1 = unopened 0
-row 0 = 1 0 1 0
-row 1 = 2 1 0 0
+board 0 = 1 0 1 0
+board 1 = 2 1 0 0
 
 eight units; 9 9 9 9 9 9 9 9
 # Each is served by its owner, and its history is its own.
@@ -83,8 +83,8 @@ attach 4 1 = done; send-1 4 test = check 062900
 attach 5 1 = done; send-2 5 test = check 062900
 attach 6 1 = done; send-1 6 test = check 062900
 attach 7 1 = done; send-2 7 test = check 062900
-row 0 = 1 0 1 2; row 1 = 2 1 0 2; row 2 = 1 0 1 2; row 3 = 2 1 0 2
-row 4 = 1 0 1 2; row 5 = 2 1 0 2; row 6 = 1 0 1 2; row 7 = 2 1 0 2
+board 0 = 1 0 1 2; board 1 = 2 1 0 2; board 2 = 1 0 1 2; board 3 = 2 1 0 2
+board 4 = 1 0 1 2; board 5 = 2 1 0 2; board 6 = 1 0 1 2; board 7 = 2 1 0 2
 "#
 }
 

@@ -10,7 +10,7 @@
 //! - `kept 0 = done`: these data lie in the memory that was handed in with the command;
 //! - `reset 0 = done`, `retire 0 = done`: it resets its unit, or its session ends; `failed`: not so;
 //! - `first = job 0`: a lane takes the first job and serves it, one of unit 0; `close = done`: the desk closes;
-//! - `row 0 = 1 0 1 6`: unit 0 belongs to group 1, the states of the groups are 0 and 1, and its history has six entries;
+//! - `board 0 = 1 0 1 6`: unit 0 belongs to group 1, the states of the groups are 0 and 1, and its history has six entries;
 //! - `move 0 2 = done`: the array moves unit 0 so that group 2 is active/optimized; `none`: no group would be; `short`: a byte is missing;
 //! - `down 1 = unopened 0`: the controller of group 1 goes down, and unit 0 stays, since it is not opened;
 //! - `64 times LINE; LINE`: these are done so often.

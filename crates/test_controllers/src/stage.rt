@@ -71,7 +71,7 @@ impl<S: Drop, A: Array<S>> Stage<'_, S, A> {
         let (verb, rest) = deed.split_once(' ').unwrap_or((deed, ""));
         let (place, rest) = rest.split_once(' ').unwrap_or((rest, ""));
         let place = self.place(place)?;
-        if verb == "row" {
+        if verb == "board" {
             return self.shows(place, told);
         }
         let end = self.end(verb, place, rest)?;

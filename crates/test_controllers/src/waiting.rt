@@ -42,26 +42,26 @@ two thousand commands; 9
 attach 0 1 = done
 send-1 0 test = check 062900
 1999 times send-1 0 test = good
-row 0 = 1 0 1 2001
+board 0 = 1 0 1 2001
 send-2 0 test = moved 1
-row 0 = 1 0 1 2001
+board 0 = 1 0 1 2001
 send-1 0 test = good
-row 0 = 1 0 1 2002
+board 0 = 1 0 1 2002
 again 0 1 = done
-row 0 = 1 0 1 2003
+board 0 = 1 0 1 2003
 send-1 0 test = gone
 reset 0 = failed
-row 0 = 1 0 1 2003
+board 0 = 1 0 1 2003
 reset 1 = done
-row 0 = 1 0 1 2004
+board 0 = 1 0 1 2004
 retire 0 = failed
 retire 1 = done
-row 0 = 1 0 1 2005
+board 0 = 1 0 1 2005
 
 more sessions in turn than at once; 9
 # Three entries each.
 65 times attach 0 1 = done; send-1 last test = check 062900; retire last = done
-row 0 = 1 0 1 195
+board 0 = 1 0 1 195
 "#
 }
 
