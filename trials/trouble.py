@@ -11,6 +11,7 @@ import contextlib
 import errno
 import os
 import shutil
+import signal
 import socket
 import subprocess
 import sys
@@ -880,6 +881,8 @@ def console_that_ends(folder):
 def signals(folder):
     disk = made(folder + "/disk", 16)
     for number in (15, 2, 1):
+        # `nohup`, or the background of a shell, may have had it ignored, which the array would inherit
+        signal.signal(number, signal.SIG_DFL)
         with Array([disk]) as array:
             session = login()
             is_so("a write", write(session, text=b"%d" % number), GOOD)

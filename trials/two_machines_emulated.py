@@ -82,6 +82,8 @@ class Machine:
     So each was booted once, as kind "plain" and as kind "systemd", up to where nothing has looked at its disk yet; what
     it then was lies in FOLDER, and that is what is switched on."""
 
+    nice = NICE
+
     def __init__(self, name, kind, folder, run, disk, when_on="true"):
         self.name, self.kind, self.folder, self.run = name, kind, folder, run
         # the disk, and the script by which the machine begins with it
@@ -104,7 +106,7 @@ class Machine:
         console = os.path.join(self.run, f"console.{self.name}.{next(self.starts)}")
         append = f"{self.kind} machine={self.name} console=ttyS0 panic=1 loglevel=4 mitigations=off no_timer_check"
         return [
-            "setpriv", "--pdeathsig", "KILL", "nice", "-n", NICE, "qemu-system-x86_64",
+            "setpriv", "--pdeathsig", "KILL", "nice", "-n", self.nice, "qemu-system-x86_64",
             "-accel", "tcg,thread=multi,tb-size=64", "-cpu", "max", "-smp", "1", "-m", "512",
             "-display", "none", "-monitor", "none", "-no-reboot", "-serial", f"file:{console}",
             "-kernel", os.path.join(self.folder, "vmlinuz"), "-initrd", os.path.join(self.folder, "initrd"),
@@ -149,7 +151,7 @@ class Machine:
         """Its processor time is what others leave, also where the system shares it by sessions."""
         try:
             with open(f"/proc/{self.process.pid}/autogroup", "w") as file:
-                file.write(NICE)
+                file.write(self.nice)
         except OSError:
             pass
 
