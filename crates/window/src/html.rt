@@ -38,12 +38,14 @@ header { display: flex; flex-wrap: wrap; gap: 4px 18px; align-items: baseline; }
 .plot { display: grid; grid-template-columns: 76px 1fr; } .marks { position: relative; }
 .marks span { position: absolute; right: 6px; transform: translateY(50%); white-space: nowrap; line-height: 1; }
 .chart .ends, .reading, .keys { margin: 4px 0 0 76px; }
-.wide { overflow-x: auto; } .wide:focus-visible { outline: 3px solid var(--one); }
+.wide { overflow-x: auto; background: linear-gradient(270deg, var(--paper) 50%, transparent) 100% 0 / 40px 100% no-repeat local,
+  linear-gradient(270deg, var(--line), transparent) 100% 0 / 14px 100% no-repeat; } .wide:focus-visible { outline: 3px solid var(--one); }
 table { border-collapse: collapse; min-width: 100%; font-size: .88rem; }
 th, td { border-bottom: 1px solid var(--line); padding: 3px 6px; text-align: left; vertical-align: top; white-space: nowrap; }
 th { color: var(--soft); font-weight: 600; } tbody tr:hover { background: var(--card); }
 td.n, th.n, [data-key=read], [data-key=written] { text-align: right; font-variant-numeric: tabular-nums; }
-td[data-key=initiator] { white-space: normal; min-width: 14rem; overflow-wrap: anywhere; }
+td[data-key=initiator] { white-space: normal; min-width: 8rem; overflow-wrap: anywhere; }
+[data-key=begun], [data-key=last] { white-space: normal; min-width: 6rem; }
 svg { width: 100%; height: 110px; display: block; } .small svg { height: 72px; } svg:focus-visible { outline: 3px solid var(--one); }
 svg path { fill: none; stroke-width: 2; stroke-linecap: round; vector-effect: non-scaling-stroke; }
 svg .mesh { stroke: var(--line); stroke-width: 1; } svg .cursor { stroke: var(--ink); stroke-width: 1; } .line0 { stroke: var(--one); }

@@ -329,7 +329,7 @@ function show(view) {
   table('session_table', [['initiator', 'initiator'], ['ISID', 'isid'], ['TSIH', 'tsih'], ['controller', 'controller'],
     ['peer', 'peer'], ['type', 'kind'], ['since (UTC)', 'begun'], ['last command', 'last'], ['commands', 'commands']],
     view.sessions.map(session => ({ ...session, begun: moment(session.since),
-    last: session.last_command ? session.last_command + ', ' + ago(session.idle_micros / 1e6) : 'none' })));
+    last: session.last_command ? session.last_command.replaceAll('_', ' ') + ', ' + ago(session.idle_micros / 1e6) : 'none' })));
   const [registrations, unread] = registrationsOf(view);
   fill('registration_count', '(' + registrations.length + unread + ')');
   table('registration_table', [['unit', 'unit'], ['initiator', 'initiator'], ['ISID', 'isid'], ['by', 'by'], ['key', 'key'],
