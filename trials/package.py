@@ -129,11 +129,11 @@ def confined(machine):
     """Its user, its disks, its memory, and what the watch tells of it."""
     pid = field(machine, "MainPID")
     check("it runs as a user of its own", machine.run(f"ps -o user:32= -p {pid}")[1] == "arrayd-one", machine.run(f"ps -o user:32= -p {pid}"))
-    check("to whom its files belong", machine.run("stat -c %U /var/lib/arrayd/one /var/lib/arrayd/one/unit0.reg /var/log/arrayd/one/log | sort -u")[1]
+    check("to whom its files belong", machine.run("stat -c %U /var/lib/arrayd/one /var/lib/arrayd/one/unit0.reg /var/log/arrayd/one/log* | sort -u")[1]
           == "arrayd-one")
     check("it may open its disks alone", sorted(re.findall("/dev/vd.", field(machine, "DeviceAllow"))) == ["/dev/vdb", "/dev/vdc"], field(machine, "DeviceAllow"))
     opens = "; ".join(f"head -c 1 /dev/{disk} > /dev/null 2>&1; echo {disk} $?" for disk in ("vdb", "vda", "vdd"))
-    inside = f"echo $$ > /sys/fs/cgroup/system.slice/system-arrayd.slice/arrayd@one.service/cgroup.procs; {opens}"
+    inside = f"echo $BASHPID > /sys/fs/cgroup/system.slice/system-arrayd.slice/arrayd@one.service/cgroup.procs; {opens}"
     said = machine.run(inside)[1]
     check("which the system keeps, even from root", said == "vdb 0\nvda 1\nvdd 1", said)
     check("its memory has a bound", field(machine, "MemoryMax").isdigit(), field(machine, "MemoryMax"))
