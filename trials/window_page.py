@@ -296,6 +296,7 @@ def fits(page):
 
 def pictures(page, folder, name):
     if folder:
+        page.value("document.activeElement.blur()")
         for width in (400, 1000, 2000):
             for is_dark in (False, True):
                 page.picture(f"{folder}/window-{name}-{width}-{'dark' if is_dark else 'light'}.png", width, is_dark)
