@@ -292,6 +292,9 @@ def fits(page):
     for width in (320, 400, 1000, 2000):
         page.look(width, False)
         is_so(f"fits {width}", page.value("document.documentElement.scrollWidth <= innerWidth"), True)
+        if width >= 1000:
+            cut = "[...document.querySelectorAll('.wide')].filter(e => e.scrollWidth > e.clientWidth).map(e => e.getAttribute('aria-label'))"
+            is_so(f"tables that are cut at {width}", page.value(cut), [])
 
 
 def pictures(page, folder, name):
