@@ -116,6 +116,8 @@ def console(machine):
     check("and not by the console", as_user("watcher", f"{CONSOLE} status")[0] == 3 and as_user("watcher", f"{CONSOLE} quit")[0] == 3)
     check("a stranger may neither", as_user("stranger", STATUS)[0] == 3 and as_user("stranger", f"{CONSOLE} status")[0] == 3)
     check("a keeper may take a controller down", as_user("keeper", f"{CONSOLE} down 2") == (0, "down"))
+    said = machine.run("journalctl --sync; journalctl -t arrayd-console -o json --output-fields=_UID,MESSAGE | grep 'down 2'; id -u keeper")[1].splitlines()
+    check("which the journal tells of him", len(said) == 2 and f'"_UID":"{said[1]}"' in said[0] and "/run/arrayd/one down 2" in said[0], said)
     check("and ask by the control socket", as_user("keeper", f"{CONSOLE} version")[1].startswith("arrayd "), as_user("keeper", f"{CONSOLE} version"))
     enters = "ls /run/arrayd/one; socat -u OPEN:/dev/null UNIX-CONNECT:/run/arrayd/one/control"
     check("nobody else enters the folder", all(as_user(user, "sh -c '" + word + "'")[0] != 0 for user in ("watcher", "stranger")
