@@ -116,6 +116,8 @@ def console(machine):
     check("and not by the console", as_user("watcher", f"{CONSOLE} status")[0] == 3 and as_user("watcher", f"{CONSOLE} quit")[0] == 3)
     check("a stranger may neither", as_user("stranger", STATUS)[0] == 3 and as_user("stranger", f"{CONSOLE} status")[0] == 3)
     check("a keeper may take a controller down", as_user("keeper", f"{CONSOLE} down 2") == (0, "down"))
+    said = machine.run("journalctl --sync; journalctl -t arrayd-console -o json --output-fields=_UID,MESSAGE | grep 'down 2'; id -u keeper")[1].splitlines()
+    check("which the journal tells of him", len(said) == 2 and f'"_UID":"{said[1]}"' in said[0] and "/run/arrayd/one down 2" in said[0], said)
     check("and ask by the control socket", as_user("keeper", f"{CONSOLE} version")[1].startswith("arrayd "), as_user("keeper", f"{CONSOLE} version"))
     enters = "ls /run/arrayd/one; socat -u OPEN:/dev/null UNIX-CONNECT:/run/arrayd/one/control"
     check("nobody else enters the folder", all(as_user(user, "sh -c '" + word + "'")[0] != 0 for user in ("watcher", "stranger")
@@ -129,11 +131,11 @@ def confined(machine):
     """Its user, its disks, its memory, and what the watch tells of it."""
     pid = field(machine, "MainPID")
     check("it runs as a user of its own", machine.run(f"ps -o user:32= -p {pid}")[1] == "arrayd-one", machine.run(f"ps -o user:32= -p {pid}"))
-    check("to whom its files belong", machine.run("stat -c %U /var/lib/arrayd/one /var/lib/arrayd/one/unit0.reg /var/log/arrayd/one/log | sort -u")[1]
+    check("to whom its files belong", machine.run("stat -c %U /var/lib/arrayd/one /var/lib/arrayd/one/unit0.reg /var/log/arrayd/one/log* | sort -u")[1]
           == "arrayd-one")
     check("it may open its disks alone", sorted(re.findall("/dev/vd.", field(machine, "DeviceAllow"))) == ["/dev/vdb", "/dev/vdc"], field(machine, "DeviceAllow"))
     opens = "; ".join(f"head -c 1 /dev/{disk} > /dev/null 2>&1; echo {disk} $?" for disk in ("vdb", "vda", "vdd"))
-    inside = f"echo $$ > /sys/fs/cgroup/system.slice/system-arrayd.slice/arrayd@one.service/cgroup.procs; {opens}"
+    inside = f"echo $BASHPID > /sys/fs/cgroup/system.slice/system-arrayd.slice/arrayd@one.service/cgroup.procs; {opens}"
     said = machine.run(inside)[1]
     check("which the system keeps, even from root", said == "vdb 0\nvda 1\nvdd 1", said)
     check("its memory has a bound", field(machine, "MemoryMax").isdigit(), field(machine, "MemoryMax"))

@@ -122,6 +122,11 @@ is 'a link that is there is taken' $ended 0
 begin linked="$place/disk0"
 ends
 is 'one to another disk is left' "$(cat "$place/complains") $ended" "arrayd-run: linked is a link to $place/disk1, and not to $place/disk0 2"
+rm "$place/state/linked"
+begin linked="$place/disk0"
+ends
+is 'and none is made anew where a disk was served by its name' "$(cat "$place/complains") $ended $(ls "$place/state" | grep -c '^linked$')" \
+    'arrayd-run: linked is gone, and linked.unit is there: hosts know a disk by this name 2 0'
 begin unit2="$place/nowhere"
 ends
 is 'there is none to a disk that is not there' "$(cat "$place/complains") $ended" "arrayd-run: there is no $place/nowhere for unit2 1"

@@ -550,6 +550,9 @@ def names_of_a_unit(folder):
             is_so("NAA", unit["naa"], page[8:16].hex())
             is_so("WWID", unit["wwid"], "3" + page[8:16].hex())
             is_so("serial number", unit["serial"], session.inquiry(number, 0x80)[4:].decode())
+            told = subprocess.run([f"{TOP}/service/arrayd-reg", f"{folder}/disk{number}.reg"], capture_output=True, text=True, check=True)
+            is_so("arrayd-reg", told.stdout.splitlines()[-1],
+                  f"its disk is unit {number} of array 305419896, WWID {unit['wwid']}, serial number {unit['serial']}")
         array.quit()
 
 

@@ -292,10 +292,14 @@ def fits(page):
     for width in (320, 400, 1000, 2000):
         page.look(width, False)
         is_so(f"fits {width}", page.value("document.documentElement.scrollWidth <= innerWidth"), True)
+        if width >= 1000:
+            cut = "[...document.querySelectorAll('.wide')].filter(e => e.scrollWidth > e.clientWidth).map(e => e.getAttribute('aria-label'))"
+            is_so(f"tables that are cut at {width}", page.value(cut), [])
 
 
 def pictures(page, folder, name):
     if folder:
+        page.value("document.activeElement.blur()")
         for width in (400, 1000, 2000):
             for is_dark in (False, True):
                 page.picture(f"{folder}/window-{name}-{width}-{'dark' if is_dark else 'light'}.png", width, is_dark)
