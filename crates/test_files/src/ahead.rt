@@ -1,18 +1,16 @@
 //! What is read ahead, where the calls of a disk have a deadline: of READs that came together a thread is asked for the first one, and
 //! reads for the others behind its answer.
-ghost use Rattle.std.specs.Prelude.{◌≡◌, false};
-ghost use Rattle.std.specs.Arc.{arc_value};
+ghost use Rattle.std.specs.Prelude.{false};
 
-use crate::ends::{fail, must};
+use crate::ends::must;
 use crate::runs::{clean, folder, path_of, sized, writes};
+use crate::timed::{timed, watch};
 use block_file::{Blocks, KeepOpener};
-use deadline::{Deadlined, DeadlinedPreparer, Watch};
+use deadline::DeadlinedPreparer;
 use disk_files::{FileBlocks, FilePreparer};
 use disk_preparer::{BlockMemory, Node, Preparer};
-use event_log::{Log, Part};
 use std::alloc::Global;
 use std::fs::File;
-use std::process::Abort;
 use std::sync::Arc;
 use std::sync::atomic::{AtomicU64, Ordering};
 use std::time::{Clock, Duration};
@@ -95,20 +93,6 @@ fn taken<B: Blocks, P: Preparer>(
     given(device, found)
 }
 
-// A watch over a disk.
-fn watch(rt: &impl Abort, alloc: Global, disk: Node) -> Arc<Watch, Global>
-    ensures { (arc_value result).node ≡ disk }
-{
-    let watch = Watch::new(
-        Duration::from_secs(PATIENCE),
-        Log::off(),
-        0,
-        Part::Disk,
-        disk,
-    );
-    Arc::new(alloc, watch).expect(rt, "memory")
-}
-
 // The types of a preparer that threads take along are known here alone.
 #[test]
 fn what_is_read_ahead_is_taken_unless_a_write_has_come_back_since(rt: HostRuntime) {
@@ -121,13 +105,9 @@ fn what_is_read_ahead_is_taken_unless_a_write_has_come_back_since(rt: HostRuntim
     let mut other = FileBlocks::open(&rt, path).expect(&rt, path);
     let by = FilePreparer::open(rt, alloc, path, &mut blocks, None);
     let disk = blocks.node();
-    let watch = watch(&rt, alloc, disk);
+    let watch = watch(&rt, alloc, PATIENCE, disk);
     let preparer = DeadlinedPreparer::start(&rt, alloc, by, disk, &watch).expect(&rt, "threads");
-    if blocks.count() == 0 {
-        fail(&rt, path, &"no blocks");
-    }
-    let device = Deadlined::start(&rt, alloc, blocks, KeepOpener, disk, &watch);
-    let mut device = device.expect(&rt, "a thread");
+    let mut device = timed(&rt, alloc, blocks, KeepOpener, disk, &watch);
     for (is_written, expected) in &[(false, BEFORE), (true, SINCE)] {
         let given = taken(alloc, &mut device, &preparer, &mut other, *is_written);
         must(&rt, given == Some(*expected), "block 2", &given);
@@ -227,7 +207,7 @@ fn the_first_block_that_is_read_ahead_is_looked_at(rt: HostRuntime) {
         disk: NO_FILE,
         seen: Arc::try_clone(&seen).expect(&rt, "memory"),
     };
-    let watch = watch(&rt, alloc, NO_FILE);
+    let watch = watch(&rt, alloc, PATIENCE, NO_FILE);
     let preparer = DeadlinedPreparer::start(&rt, alloc, by, NO_FILE, &watch).expect(&rt, "threads");
     must(&rt, first(alloc, &preparer).is_some(), "block 1", &());
     let looks = looks(&rt, &seen);

@@ -1,14 +1,12 @@
 //! The runner of the scripts over files (`scripts`).
 use crate::ends::must;
+use crate::kept::AnyFile;
 use crate::registered::registered;
 use crate::rows::{Row, row_of};
 use crate::runs::{clean, folder, path_of, reads, sized, writes};
 use aptpl_file::RegFile;
 use block_file::{Blocks, Opener};
-use disk_files::{
-    Disk, FileBlocks, FileFault, Registrations, UnitName, blocks_in, open_as, open_disk,
-    open_registrations,
-};
+use disk_files::{FileBlocks, FileFault, UnitName, blocks_in, open_as};
 use reservations::Record;
 use std::alloc::Global;
 use std::fmt::Debug;
@@ -17,74 +15,108 @@ use std::fs::{File, Files};
 use std::os::unix::fs::MetadataExt;
 use std::process::Abort;
 
-/// Plays each script of a table in a folder of this process.
-pub fn play_each<R: Files<File = File> + AllocGlobal + Abort + Copy + Drop>(
-    rt: &R,
-    process: u32,
-    table: &str,
-) {
+/// Plays each script of a table in a folder of this process, over files that are opened so.
+pub fn play_each<
+    R: Files<File = File> + AllocGlobal + Abort,
+    K: AnyFile,
+    O: Fn(&str, bool) -> Result<K, String>,
+>(rt: &R, opens: &O, process: u32, table: &str)
+    requires { O.IsAlwaysCallable opens.now }
+{
     for script in table.split("\n\n") {
         let (name, rows) = script.split_once('\n').unwrap_or((script, ""));
         let folder = folder(rt, process, name);
-        play(rt, folder.as_str(), rows);
+        play(rt, opens, folder.as_str(), rows);
         clean(rt, folder.as_str());
     }
 }
 
 // Plays the rows of a script in a folder.
-fn play<R: Files<File = File> + AllocGlobal + Abort + Copy + Drop>(
-    rt: &R,
-    folder: &str,
-    rows: &str,
-) {
+fn play<
+    R: Files<File = File> + AllocGlobal + Abort,
+    K: AnyFile,
+    O: Fn(&str, bool) -> Result<K, String>,
+>(rt: &R, opens: &O, folder: &str, rows: &str)
+    requires { O.IsAlwaysCallable opens.now }
+{
     let mut kept = None;
     for line in rows.split('\n') {
         let row = row_of(line);
         let path = path_of(rt, rt.alloc(), folder, row.on);
         must(
             rt,
-            ends_so(rt, &mut kept, path.as_str(), &row),
+            ends_so(rt, opens, &mut kept, path.as_str(), &row),
             folder,
             &line,
         );
     }
 }
 
-// Whether a call ends as its row says. The path is that of what it is on. A disk that is opened is kept.
-fn ends_so<R: Files<File = File> + AllocGlobal + Abort + Copy + Drop>(
-    rt: &R,
-    kept: &mut Option<Disk<R>>,
-    path: &str,
-    row: &Row,
-) -> bool {
-    if row.word == "open" {
-        match open_disk(*rt, rt.alloc(), path) {
-            Ok(disk) => {
-                *kept = Some(disk);
-                row.ends(true)
+// Whether a call ends as its row says. The path is that of what it is on. What is opened is kept.
+fn ends_so<
+    R: Files<File = File> + AllocGlobal + Abort,
+    K: AnyFile,
+    O: Fn(&str, bool) -> Result<K, String>,
+>(rt: &R, opens: &O, kept: &mut Option<K>, path: &str, row: &Row) -> bool
+    requires { O.IsAlwaysCallable opens.now }
+{
+    match row.word {
+        "open" | "keep" | "registrations" => match opens(path, row.word == "open") {
+            Ok(file) => {
+                *kept = Some(file);
+                is_opened(rt, rt.alloc(), kept, row)
             }
-            Err(fault) => is_told(rt, rt.alloc(), &fault, row),
+            Err(fault) => fault.as_str() == row.end,
+        },
+        "close" => {
+            *kept = None;
+            row.ends(true)
         }
-    } else if row.is_on_a_disk() {
-        match kept {
-            Some(disk) => is_done(rt, rt.alloc(), &mut disk.blocks, &mut disk.opener, row),
-            None => false,
-        }
-    } else if row.word == "close" {
-        *kept = None;
-        row.ends(true)
-    } else {
-        looks_so(rt, path, row)
+        _ if row.is_on_what_is_kept() => is_done_so(rt, rt.alloc(), kept, row),
+        _ => looks_so(rt, path, row),
     }
+}
+
+// Whether what is kept was opened as a row says. A record of the key of the row is saved then, if it has one; and what is not to be kept
+// is closed.
+fn is_opened<K: AnyFile>(rt: &impl Abort, alloc: Global, kept: &mut Option<K>, row: &Row) -> bool {
+    let is_so = match kept {
+        Some(file) => file.is_so(rt, alloc, row),
+        None => false,
+    };
+    let save = Row {
+        word: "save",
+        on: row.rest,
+        rest: "",
+        end: "done",
+    };
+    let is_saved = row.rest.is_empty() || is_done_so(rt, alloc, kept, &save);
+    if row.word == "registrations" {
+        *kept = None;
+    }
+    is_so && is_saved
+}
+
+// Makes the call of a row on what is kept: whether it ends so.
+fn is_done_so<K: AnyFile>(rt: &impl Abort, alloc: Global, kept: &mut Option<K>, row: &Row) -> bool {
+    match kept {
+        Some(file) => file.ends(rt, alloc, row),
+        None => false,
+    }
+}
+
+/// What a fault is called.
+pub fn said<D: Debug>(rt: &impl Abort, alloc: Global, fault: &D) -> String {
+    format!(in alloc; "{fault:?}").expect(rt, "memory")
 }
 
 // Whether a row ends by this fault.
 fn is_told<D: Debug>(rt: &impl Abort, alloc: Global, fault: &D, row: &Row) -> bool {
-    format!(in alloc; "{fault:?}").expect(rt, "memory").as_str() == row.end
+    said(rt, alloc, fault).as_str() == row.end
 }
 
-// Makes a call on a disk. The lock on it is held all the while.
-fn is_done<B: Blocks, O: Opener<B>>(
+/// Makes a call on a disk. The lock on it is held all the while.
+pub fn is_done<B: Blocks, O: Opener<B>>(
     rt: &impl Abort,
     alloc: Global,
     blocks: &mut B,
@@ -117,7 +149,6 @@ fn looks_so<R: Files<File = File> + AllocGlobal + Abort>(rt: &R, path: &str, row
         },
         "filled" => row.ends(is_filled(rt, path)),
         "count" => is_counted(rt, rt.alloc(), count(rt, path), row),
-        "registrations" => is_opened(rt, rt.alloc(), path, row),
         "unit" => is_unit(rt, rt.alloc(), path, row),
         _ => changes(rt, rt.alloc(), path, row),
     }
@@ -169,43 +200,20 @@ fn is_unit<R: Files<File = File> + Abort>(rt: &R, alloc: Global, path: &str, row
     }
 }
 
-// Opens the registration file of a disk.
-fn is_opened<R: Files<File = File> + Abort>(rt: &R, alloc: Global, path: &str, row: &Row) -> bool {
-    match open_registrations(rt, alloc, path, None) {
-        Ok(
-            Registrations {
-                mut file,
-                record,
-                lock: _lock,
-            },
-        ) => is_found(rt, alloc, &mut file, &record, row),
-        Err(fault) => is_told(rt, alloc, &fault, row),
-    }
-}
-
-// Whether a record says what a row does. Then one of the row's key is saved, if it has one.
-fn is_found<B: Blocks>(
+/// Saves a record of a key: whether that was done.
+pub fn is_saved<B: Blocks>(
     rt: &impl Abort,
     alloc: Global,
     file: &mut RegFile<B>,
-    record: &Record,
-    row: &Row,
+    key: &str,
 ) -> bool {
-    if !row.rest.is_empty() {
-        save(rt, alloc, file, row.rest);
-    }
-    told(rt, alloc, record).as_str() == row.end
-}
-
-// Saves a record of a key.
-fn save<B: Blocks>(rt: &impl Abort, alloc: Global, file: &mut RegFile<B>, key: &str) {
     let number = u64::from_str_radix(key, 16).expect(rt, key);
     let registry = registered(rt, alloc, number, false);
-    must(rt, file.save(&registry.lasting()).is_ok(), "a save", &key);
+    file.save(&registry.lasting()).is_ok()
 }
 
-// What a record says: APTPL or not, and the key of its first registrant.
-fn told(rt: &impl Abort, alloc: Global, record: &Record) -> String {
+/// What a record says: APTPL or not, and the key of its first registrant.
+pub fn told(rt: &impl Abort, alloc: Global, record: &Record) -> String {
     let aptpl = if record.aptpl() { "APTPL" } else { "no APTPL" };
     match record.registrants().first() {
         Some(registrant) => format!(in alloc; "{aptpl} {:X}", registrant.key),

@@ -1,20 +1,21 @@
 //! Calls that have a deadline, over a disk that counts what it is asked, and stands still when it is told to.
-ghost use Rattle.std.specs.Prelude.{◌≡◌, [], true, false};
-ghost use Rattle.std.specs.Arc.{arc_value};
+ghost use Rattle.std.specs.Prelude.{[], true, false};
 ghost use Rattle.block_file.specs.Failures.{last_count};
 
-use crate::ends::{fail, must};
-use crate::runs::{reads, writes};
+use crate::calls::{is_done_on, said};
+use crate::ends::must;
+use crate::rows::{Row, row_of};
+use crate::runs::reads;
+use crate::timed::{timed, watch};
 use block_file::{Blocks, DeviceFailed, KeepOpener, MemBlocks};
-use deadline::{Deadlined, DeadlinedPreparer, Watch};
+use deadline::DeadlinedPreparer;
 use disk_files::FileDevice;
 use disk_preparer::{BlockMemory, Node, OnDisk, Preparer};
-use event_log::{Log, Part};
 use std::alloc::Global;
 use std::process::Abort;
-use std::sync::Arc;
 use std::sync::atomic::{AtomicU64, Ordering};
-use std::thread;
+use std::sync::{Arc, Wait};
+use std::thread::{self, Threads};
 use std::time::{Clock, Duration};
 
 /// So many seconds a call may take.
@@ -22,9 +23,6 @@ const PATIENCE: u64 = 1;
 
 /// So often one looks for what another thread does, a millisecond each.
 const TRIES: u64 = 10_000;
-
-/// So long a call takes that comes too late, and would not where twice as many seconds were given.
-const TOO_LATE: u64 = 1_500;
 
 /// A disk in no file.
 const NO_FILE: Node = Node {
@@ -80,17 +78,17 @@ impl Seen {
 
 /// The device of the disk. Of its contents it claims nothing.
 #[derive(Drop)]
-struct Seeing<B: Blocks, R: Clock + Drop> {
+struct Seeing<B: Blocks> {
     inner: B,
-    rt: R,
+    rt: HostRuntime,
     seen: Arc<Seen, Global>,
 }
 
-impl<B: Blocks, R: Clock + Drop> OnDisk for Seeing<B, R> {
+impl<B: Blocks> OnDisk for Seeing<B> {
     ghost disk = { λ d. record { device = 0; number = 0 } };
 }
 
-impl<B: Blocks, R: Clock + Drop> Blocks for Seeing<B, R> {
+impl<B: Blocks> Blocks for Seeing<B> {
     ghost claims = { false };
 
     ghost claims_moments = { false };
@@ -148,7 +146,7 @@ impl<B: Blocks, R: Clock + Drop> Blocks for Seeing<B, R> {
 }
 
 // It lies in no file, and says nothing of one: a count at its end.
-impl<B: Blocks, R: Clock + Drop> FileDevice for Seeing<B, R> {
+impl<B: Blocks> FileDevice for Seeing<B> {
     ghost has_read = { λ disk offset bytes. Unit {0} };
 
     ghost has_written = { λ disk offset bytes. Unit {0} };
@@ -180,13 +178,13 @@ impl<B: Blocks, R: Clock + Drop> FileDevice for Seeing<B, R> {
 
 /// Its preparer, whose reads fail.
 #[derive(Drop)]
-struct SeeingPreparer<R: Clock + Drop> {
+struct SeeingPreparer {
     disk: Node,
-    rt: R,
+    rt: HostRuntime,
     seen: Arc<Seen, Global>,
 }
 
-impl<R: Clock + Drop> Preparer for SeeingPreparer<R> {
+impl Preparer for SeeingPreparer {
     ghost may_flush = { true };
 
     ghost disk = { λ p. p.disk };
@@ -240,34 +238,15 @@ fn share(rt: &impl Abort, seen: &Arc<Seen, Global>) -> Arc<Seen, Global> {
     Arc::try_clone(seen).expect(rt, "memory")
 }
 
-// A watch over the disk.
-fn watch(rt: &impl Abort, alloc: Global) -> Arc<Watch, Global>
-    ensures { (arc_value result).node ≡ record { device = 0; number = 0 } }
-{
-    let patience = Duration::from_secs(PATIENCE);
-    let watch = Watch::new(patience, Log::off(), 0, Part::Disk, NO_FILE);
-    Arc::new(alloc, watch).expect(rt, "memory")
-}
-
-// Whether the device is served again in time: block 2 is read, which this byte fills.
-fn is_served<B: Blocks>(rt: &impl Clock, device: &mut B, byte: u8) -> bool {
+// Whether the device is served again in time: block 2 is read, which these bytes fill.
+fn is_served<B: Blocks>(rt: &impl Clock, device: &mut B, bytes: &[u8]) -> bool {
     for _ in 0..TRIES {
-        if reads(device, 2, &[byte]) {
+        if reads(device, 2, bytes) {
             return true;
         }
         thread::sleep(rt, Duration::from_millis(1));
     }
     false
-}
-
-// What two writes of block 2 leave, each read back, and how two flushes of the device end.
-fn is_written_and_flushed<B: Blocks>(device: &mut B) -> bool {
-    writes(device, 2, &[0x11])
-        && reads(device, 2, &[0x11])
-        && writes(device, 2, &[0x22])
-        && reads(device, 2, &[0x22])
-        && device.flush().is_ok()
-        && device.flush().is_ok()
 }
 
 // Whether a read beside the device, which fails, gives memory that holds nothing.
@@ -281,160 +260,119 @@ fn is_fresh<P: Preparer>(alloc: Global, preparer: &P) -> bool {
     }
 }
 
-#[test]
-fn each_call_is_one_of_its_own(rt: HostRuntime) {
-    let alloc = rt.alloc();
-    let (seen, watch) = (nothing(&rt, alloc), watch(&rt, alloc));
+// Whether a row ends as it says.
+fn ends_so<B: Blocks, P: Preparer>(
+    rt: &(impl Clock + Abort),
+    alloc: Global,
+    device: &mut B,
+    preparer: &P,
+    seen: &Seen,
+    row: &Row,
+) -> bool {
+    match row.word {
+        "stand" => {
+            seen.stand(row.on.parse().expect(rt, row.on));
+            true
+        }
+        "served" => is_served(rt, device, &row.bytes(rt, alloc)),
+        "beside" => row.ends(preparer.flush()),
+        "fresh" => row.ends(is_fresh(alloc, preparer)),
+        "counts" => said(rt, alloc, &seen.counts()).as_str() == row.end,
+        _ => row.ends(is_done_on(rt, alloc, device, row)),
+    }
+}
+
+// Plays the rows of a script, whose first line is its name.
+fn play<B: Blocks, P: Preparer>(
+    rt: &(impl Clock + Abort),
+    alloc: Global,
+    device: &mut B,
+    preparer: &P,
+    seen: &Seen,
+    script: &str,
+) {
+    let (name, rows) = script.split_once('\n').unwrap_or((script, ""));
+    for line in rows.split('\n') {
+        let ends_so = ends_so(rt, alloc, device, preparer, seen, &row_of(line));
+        must(rt, ends_so, name, &line);
+    }
+}
+
+// Plays a script over a disk of its own.
+fn play_over_a_disk<R: Threads + Wait + Clock + Abort + Clone + Drop + Send + Sync + 'static>(
+    rt: &R,
+    host: HostRuntime,
+    alloc: Global,
+    script: &str,
+) {
+    let seen = nothing(rt, alloc);
+    let watch = watch(rt, alloc, PATIENCE, NO_FILE);
     let blocks = Seeing {
-        inner: MemBlocks::new(alloc, 16).expect(&rt, "memory"),
-        rt: rt.clone().expect(&rt, "memory"),
-        seen: share(&rt, &seen),
+        inner: MemBlocks::new(alloc, 16).expect(rt, "memory"),
+        rt: host,
+        seen: share(rt, &seen),
     };
     let by = SeeingPreparer {
         disk: NO_FILE,
-        rt: rt.clone().expect(&rt, "memory"),
-        seen: share(&rt, &seen),
+        rt: host,
+        seen: share(rt, &seen),
     };
-    let preparer = DeadlinedPreparer::start(&rt, alloc, by, NO_FILE, &watch).expect(&rt, "threads");
-    if blocks.count() == 0 {
-        fail(&rt, "the device", &"no blocks");
-    }
-    let device = Deadlined::start(&rt, alloc, blocks, KeepOpener, NO_FILE, &watch);
-    let mut device = device.expect(&rt, "a thread");
-    must(
-        &rt,
-        is_written_and_flushed(&mut device),
-        "the device",
-        &seen.counts(),
-    );
-    must(&rt, seen.counts() == (2, 2, 2), "its calls", &seen.counts());
-    must(
-        &rt,
-        preparer.flush() && preparer.flush(),
-        "flushes beside it",
-        &seen.counts(),
-    );
-    must(
-        &rt,
-        seen.counts() == (2, 2, 4),
-        "their calls",
-        &seen.counts(),
-    );
-    must(
-        &rt,
-        is_fresh(alloc, &preparer),
-        "a read that fails",
-        &seen.counts(),
-    );
-    must(&rt, seen.counts() == (3, 2, 4), "its call", &seen.counts());
+    let preparer = DeadlinedPreparer::start(rt, alloc, by, NO_FILE, &watch).expect(rt, "threads");
+    let mut device = timed(rt, alloc, blocks, KeepOpener, NO_FILE, &watch);
+    play(rt, alloc, &mut device, &preparer, &seen, script);
+}
+
+// `read`, `write` and `flush` are calls on the device, as in `scripts`, and `beside` is a flush by the preparer. `stand 10000`: from now on
+// each call of the disk takes so many milliseconds. `served 2 11`: block 2 is read in time, which this byte fills. `fresh`: a read beside
+// the device, which fails, gives memory that holds nothing. `counts; (1, 2, 3)`: so many reads, writes and flushes the disk was asked for.
+fn scripts() -> &'static str {
+    r#"each call is one of its own
+write 2 11
+read 2 11
+write 2 22
+read 2 22
+flush
+flush
+counts; (2, 2, 2)
+beside
+beside
+counts; (2, 2, 4)
+fresh
+counts; (3, 2, 4)
+
+a call that hangs stops all until it is back
+write 2 11
+stand 10000
+beside; failed
+read 2 11; failed
+beside; failed
+write 3 33; failed
+counts; (0, 1, 1)
+stand 0
+served 2 11
+beside
+counts; (1, 1, 2)
+stand 10000
+write 2 22; failed
+read 2 11; failed
+beside; failed
+counts; (1, 2, 2)
+stand 0
+served 2 22
+write 2 44
+read 2 44
+
+one that comes back by itself, too late
+write 2 44
+stand 1500
+write 2 55; failed
+stand 0
+served 2 55"#
 }
 
 #[test]
-fn a_call_that_hangs_stops_all_until_it_is_back(rt: HostRuntime) {
-    let alloc = rt.alloc();
-    let (seen, watch) = (nothing(&rt, alloc), watch(&rt, alloc));
-    let blocks = Seeing {
-        inner: MemBlocks::new(alloc, 16).expect(&rt, "memory"),
-        rt: rt.clone().expect(&rt, "memory"),
-        seen: share(&rt, &seen),
-    };
-    let by = SeeingPreparer {
-        disk: NO_FILE,
-        rt: rt.clone().expect(&rt, "memory"),
-        seen: share(&rt, &seen),
-    };
-    let preparer = DeadlinedPreparer::start(&rt, alloc, by, NO_FILE, &watch).expect(&rt, "threads");
-    if blocks.count() == 0 {
-        fail(&rt, "the device", &"no blocks");
+fn each_call_has_a_deadline(rt: HostRuntime) {
+    for script in scripts().split("\n\n") {
+        play_over_a_disk(&rt, rt, rt.alloc(), script);
     }
-    let device = Deadlined::start(&rt, alloc, blocks, KeepOpener, NO_FILE, &watch);
-    let mut device = device.expect(&rt, "a thread");
-    must(
-        &rt,
-        writes(&mut device, 2, &[0x11]),
-        "a write",
-        &seen.counts(),
-    );
-    // a flush beside the device hangs, and then a write of the device
-    seen.stand(TRIES);
-    must(&rt, !preparer.flush(), "a flush that hangs", &seen.counts());
-    must(
-        &rt,
-        !reads(&mut device, 2, &[0x11]),
-        "a read meanwhile",
-        &seen.counts(),
-    );
-    must(
-        &rt,
-        !preparer.flush() && !writes(&mut device, 3, &[0x33]),
-        "calls meanwhile",
-        &seen.counts(),
-    );
-    must(
-        &rt,
-        seen.counts() == (0, 1, 1),
-        "none is made",
-        &seen.counts(),
-    );
-    seen.stand(0);
-    must(
-        &rt,
-        is_served(&rt, &mut device, 0x11),
-        "behind the flush",
-        &seen.counts(),
-    );
-    must(&rt, preparer.flush(), "a flush behind it", &seen.counts());
-    must(
-        &rt,
-        seen.counts() == (1, 1, 2),
-        "one call each",
-        &seen.counts(),
-    );
-    seen.stand(TRIES);
-    must(
-        &rt,
-        !writes(&mut device, 2, &[0x22]),
-        "a write that hangs",
-        &seen.counts(),
-    );
-    must(
-        &rt,
-        !reads(&mut device, 2, &[0x11]) && !preparer.flush(),
-        "calls meanwhile",
-        &seen.counts(),
-    );
-    must(
-        &rt,
-        seen.counts() == (1, 2, 2),
-        "none is made",
-        &seen.counts(),
-    );
-    seen.stand(0);
-    must(
-        &rt,
-        is_served(&rt, &mut device, 0x22),
-        "behind the write",
-        &seen.counts(),
-    );
-    must(
-        &rt,
-        writes(&mut device, 2, &[0x44]) && reads(&mut device, 2, &[0x44]),
-        "then",
-        &seen.counts(),
-    );
-    // one that comes back by itself, too late
-    seen.stand(TOO_LATE);
-    must(
-        &rt,
-        !writes(&mut device, 2, &[0x55]),
-        "a write that is late",
-        &seen.counts(),
-    );
-    seen.stand(0);
-    must(
-        &rt,
-        is_served(&rt, &mut device, 0x55),
-        "behind it",
-        &seen.counts(),
-    );
 }

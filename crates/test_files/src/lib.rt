@@ -19,6 +19,8 @@ mod fake;
 #[cfg(test)]
 mod flushes;
 #[cfg(test)]
+mod kept;
+#[cfg(test)]
 mod limits;
 #[cfg(test)]
 mod memory;
@@ -36,3 +38,5 @@ mod runs;
 mod scripts;
 #[cfg(test)]
 mod system;
+#[cfg(test)]
+mod timed;

@@ -26,9 +26,12 @@ pub fn row_of(line: &str) -> Row<'_> {
 }
 
 impl Row<'_> {
-    /// Whether it is a call on the disk that is kept.
-    pub fn is_on_a_disk(&self) -> bool {
-        matches!(self.word, "read" | "write" | "flush" | "anew" | "blocks")
+    /// Whether it is a call on what is kept.
+    pub fn is_on_what_is_kept(&self) -> bool {
+        matches!(
+            self.word,
+            "read" | "write" | "flush" | "anew" | "blocks" | "save"
+        )
     }
 
     /// The block that it is on.

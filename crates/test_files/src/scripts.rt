@@ -12,17 +12,40 @@
 //!   the block 1 on two are read or written that these bytes fill. `anew` opens it for another controller.
 //! - `registrations disk; APTPL 11` opens the registration file of a disk, and ends with what its record says: APTPL or not, and
 //!   the key of the first registrant, if there is one; or with why it is not opened. Where a key comes behind the disk, a record
-//!   of that one is saved then.
+//!   of that one is saved then. `keep disk; APTPL 11` does the same, and keeps the file until `close`; `save 22` saves a record in it.
 //! - `unit disk 1 7` opens a disk as unit 1 of array 7.
 //! - `count disk; 4`: so many blocks the device of a file has, or why it is none; `blocks_in 512; 1`: so many a length has.
+//!
+//! Those on disks and registration files are played once more where calls have a deadline.
 use crate::calls::play_each;
+use crate::kept::{opened, opened_by_threads};
 use std::process;
+
+/// The folders of the scripts with a deadline have numbers so far from those of the others.
+const OTHER_FOLDERS: u32 = 0x4000_0000;
 
 #[test]
 fn each_call_ends_so(rt: HostRuntime) {
     let process = process::id(rt.process());
-    for table in &[disks(), locks(), lengths(), registrations(), unit_files()] {
-        play_each(&rt, process, *table);
+    let plain = |path: &str, is_disk: bool| opened(&rt, rt.alloc(), rt, path, is_disk);
+    for table in &[
+        disks(),
+        locks(),
+        lengths(),
+        registrations(),
+        kept(),
+        unit_files(),
+    ] {
+        play_each(&rt, &plain, process, *table);
+    }
+}
+
+#[test]
+fn each_call_ends_so_where_it_has_a_deadline(rt: HostRuntime) {
+    let process = process::id(rt.process()).wrapping_add(OTHER_FOLDERS);
+    let timed = |path: &str, is_disk: bool| opened_by_threads(&rt, rt, path, is_disk);
+    for table in &[disks(), locks(), registrations(), kept()] {
+        play_each(&rt, &timed, process, *table);
     }
 }
 
@@ -198,6 +221,62 @@ holds disk.reg "text"
 
 a folder that is not there
 registrations disk/none; NotMade(2)"#
+}
+
+// What becomes of a registration file that is kept open.
+fn kept() -> &'static str {
+    r#"one server a registration file
+keep disk 11; no APTPL
+registrations disk; InUse
+link disk.reg disk_other.reg
+registrations disk_other; InUse
+save 22
+close
+registrations disk_other; APTPL 22
+
+nothing is saved in a file whose name another one has
+registrations disk 11; no APTPL
+registrations disk_other 22; no APTPL
+keep disk; APTPL 11
+link disk.reg disk_kept.reg
+rename disk_other.reg disk.reg
+save 33; failed
+remove disk.reg
+save 33; failed
+make disk.reg 0
+save 33; failed
+rename disk_kept.reg disk.reg
+save 33
+close
+registrations disk; APTPL 33
+
+a link that leads to another file
+registrations disk 11; no APTPL
+registrations disk_other 22; no APTPL
+rename disk.reg disk_kept.reg
+symlink disk_kept.reg disk.reg
+keep disk; APTPL 11
+save 33
+remove disk.reg
+symlink none disk.reg
+save 44; failed
+remove disk.reg
+symlink disk_other.reg disk.reg
+save 44; failed
+close
+registrations disk; APTPL 22
+registrations disk_kept; APTPL 33
+
+a sparse one is read, and a save finds its room while there is some
+registrations disk 11; no APTPL
+registrations disk 22; APTPL 11
+cut disk.reg 17408
+cut disk.reg 34304
+filled disk.reg; failed
+keep disk 33; APTPL 22
+close
+filled disk.reg
+registrations disk; APTPL 33"#
 }
 
 // The file beside a disk that says as which unit it is served.

@@ -9,5 +9,5 @@ start-requires-send-P g _ κs = search (files_cross, sendable, crosses) depth 20
 pub start-requires-sync-P : goal.start-requires-sync-P
 start-requires-sync-P g _ κs = search (files_cross, sendable, crosses) depth 20
 
-pub start-device-requires-send-B : goal.start-device-requires-send-B
-start-device-requires-send-B g _ κs = search (files_cross, sendable, crosses) depth 20
+pub timed-device-requires-send-B : goal.timed-device-requires-send-B
+timed-device-requires-send-B g _ κs = search (files_cross, sendable, crosses) depth 20
