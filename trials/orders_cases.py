@@ -185,6 +185,12 @@ RIGHT = {
         2..3 c reset
         4..5 a ready -> reset
         6..7 a ready -> GOOD""",
+    "a reset that takes the place of a login and a move": """
+        0..1 a1 attach
+        2..3 m down 2
+        4..5 c reset
+        6..7 a1 ready -> reset
+        8..9 a1 ready -> GOOD""",
     "a request that was not answered, and whose count is seen behind the next login of its host": """
         0..- a register 0 0 ->
         5..6 a1 attach
