@@ -216,10 +216,10 @@ class Search:
             waits = [POWER_ON]
         else:
             return True
-        for code, told in zip(waits, left):
+        for place, (code, told) in enumerate(zip(waits, left)):
             if told.code != code:
-                # a reset takes the place of all that waits
-                return told.code == POWER_ON and self.may_come(at, (RESET,), told.end)
+                # a reset takes the place of all that waits, and is told by one of these
+                return any(told.code == POWER_ON and self.may_come(at, (RESET,), told.end) for told in left[:place + 1])
         told = next((told for told in left[len(waits):] if told.code), None)
         return told is None or self.may_come(at, RAISES.get(told.code, (OUT,)), told.end)
 

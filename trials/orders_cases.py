@@ -172,6 +172,31 @@ RIGHT = {
         34..35 c1 keys -> GOOD 0 11 12
         36..37 c1 write 0 1 -> BUSY
         38..39 c1 write 0 1 -> GOOD""",
+    "two logins beside a move, of which one is told of it": """
+        0..20 a1 attach
+        0..20 c1 attach
+        5..10 m down 2
+        21..22 a1 ready -> reset
+        23..24 a1 ready -> changed
+        21..22 c1 ready -> reset
+        23..24 c1 ready -> GOOD""",
+    "a reset that takes the place of a move which waits to be told": """
+        0..1 m down 2
+        2..3 c reset
+        4..5 a ready -> reset
+        6..7 a ready -> GOOD""",
+    "a reset that takes the place of a login and a move": """
+        0..1 a1 attach
+        2..3 m down 2
+        4..5 c reset
+        6..7 a1 ready -> reset
+        8..9 a1 ready -> GOOD""",
+    "a request that was not answered, and whose count is seen behind the next login of its host": """
+        0..- a register 0 0 ->
+        5..6 a1 attach
+        7..8 a1 ready -> reset
+        9..10 a1 write 0 1 -> GOOD
+        11..12 b keys -> GOOD 1""",
 }
 
 WRONG = {
@@ -232,6 +257,16 @@ WRONG = {
         6..7 a1 read 1 1 -> GOOD 3
         8..- a write 1 8 ->
         9..10 a1 read 1 1 -> GOOD 8""",
+    "a move that a session is not told of": """
+        0..1 m down 2
+        2..3 a ready -> GOOD""",
+    "a session that is told of a move which nobody made": """
+        0..1 a ready -> changed""",
+    "a request that counts though nobody made it": """
+        0..1 a keys -> GOOD 1""",
+    "a registration that does not count": """
+        0..1 a register 0 11 -> GOOD
+        2..3 b keys -> GOOD 0 11""",
 }
 
 
