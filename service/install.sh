@@ -21,7 +21,8 @@ install -D -m 0755 "$here/arrayd-reg" "$DESTDIR/usr/sbin/arrayd-reg"
 for command in arrayd-run arrayd-console arrayd-status arrayd-prepare arrayd-watch; do
     install -D -m 0755 "$here/$command" "$DESTDIR/usr/libexec/arrayd/$command"
 done
-for unit in arrayd@.service arrayd-prepare@.service arrayd-status@.socket arrayd-status@.service arrayd-watch@.timer arrayd-watch@.service; do
+for unit in arrayd@.service arrayd-prepare@.service arrayd-status@.socket arrayd-status@.service arrayd-watch@.timer arrayd-watch@.service \
+    arrayd-logrotate.timer arrayd-logrotate.service; do
     install -D -m 0644 "$here/$unit" "$DESTDIR/usr/lib/systemd/system/$unit"
 done
 install -D -m 0644 "$here/arrayd.sysusers" "$DESTDIR/usr/lib/sysusers.d/arrayd.conf"

@@ -102,6 +102,10 @@ def three_commands(machine):
     check("the program tells its version, as the package", machine.run("arrayd --version")[1].split()[-1]
           == machine.run("dpkg-query -W -f '${Version}' arrayd")[1].partition("~")[0].partition("+")[0])
     check("it has a log, which is rotated", machine.run("logrotate -f /etc/logrotate.d/arrayd; ls /var/log/arrayd/one/log.1")[0] == 0)
+    machine.run("fallocate -l 101M /var/log/arrayd/one/log; systemctl start arrayd-logrotate")
+    said = machine.run("systemctl is-active arrayd-logrotate.timer; ls -l /var/log/arrayd/one")[1]
+    check("one that grows fast is rotated within the hour", said.startswith("active") and "105906176" in said and " log\n" not in said + "\n", said)
+    machine.run("find /var/log/arrayd -size +100M -delete")
     check("man finds its pages", machine.run("ls /usr/share/man/man8/arrayd.8.gz /usr/share/man/man8/arrayd-reg.8.gz")[0] == 0)
 
 

@@ -242,10 +242,11 @@ is 'and a name of which no user can be made' "$(prepared one.two; prepared abcde
 if command -v systemd-analyze > /dev/null; then
     # as it is installed, under a root of its own
     DESTDIR="$place/root" service/install.sh "$ARRAYD"
-    for unit in arrayd@.service arrayd-prepare@.service arrayd-status@.service arrayd-status@.socket arrayd-watch@.service arrayd-watch@.timer; do
+    for unit in arrayd@.service arrayd-prepare@.service arrayd-status@.service arrayd-status@.socket arrayd-watch@.service arrayd-watch@.timer \
+        arrayd-logrotate.service arrayd-logrotate.timer; do
         sed "s#/usr/libexec#$place/root/usr/libexec#" "service/$unit" > "$place/$(echo "$unit" | sed 's/@/@test/')"
     done
-    is 'systemd-analyze verify has nothing to say' "$(cd "$place" && systemd-analyze verify --man=no ./arrayd*@test.* 2>&1)" ''
+    is 'systemd-analyze verify has nothing to say' "$(cd "$place" && systemd-analyze verify --man=no ./arrayd*@test.* ./arrayd-logrotate.* 2>&1)" ''
     for unit in arrayd@test.service arrayd-status@test.service arrayd-watch@test.service; do
         systemd-analyze security --offline=true --threshold=25 "$place/$unit" > "$place/security" 2>&1
         is 'systemd-analyze security calls its exposure at most 2.5' $? 0
