@@ -69,8 +69,8 @@ fn names_registrant<R: Files<File = File>>(
     )
 }
 
-// Whether another server is refused this file.
-fn is_refused<R: Files<File = File> + Clone + Drop>(
+/// Whether another server is refused this file.
+pub fn is_refused<R: Files<File = File> + Clone + Drop>(
     rt: &R,
     alloc: Global,
     file: &str,

@@ -1,12 +1,15 @@
 //! The program over two files: which unit is in which file, and which portal in which group. While it still serves, the files are
 //! copied, and a second array starts over the copies: so it finds what was written and registered, though the first has not ended.
-//! This shows no loss of a cache, as what a disk has not yet written is in the copies too.
+//! This shows no loss of a cache, as what a disk has not yet written is in the copies too. All this once more where calls have a deadline.
+ghost use Rattle.std.specs.Prelude.{◌≤◌, IfOk, length};
+
 use crate::administrators::administration;
 use crate::ends::must;
 use crate::hosts::perform;
 use crate::site::{Site, free_site, make};
-use crate::visits::{Visited, console_lines};
-use array::{open, serve};
+use crate::visits::{Visited, console_lines, is_refused};
+use array::{Administration, open, open_files, serve, serve_timed};
+use command_line::{MAX_UNITS, Options};
 use event_log::{Log, Meters};
 use std::alloc::Global;
 use std::fs::{self, File};
@@ -16,7 +19,14 @@ use std::process::{self, Abort};
 use std::rt::Files;
 use std::sync::Arc;
 use std::test::*;
+use std::time::{Clock, Duration};
 use test_connections::{Host, filled};
+
+/// So many seconds a call of a file may take.
+const PATIENCE: u64 = 20;
+
+/// So far from the place where the search for free ports begins another one begins.
+const OTHER_PORTS: u32 = 250;
 
 // What hosts do before the files are copied. Each login is told the group of its portal.
 fn before() -> &'static str {
@@ -148,8 +158,9 @@ fn site_of<'a, R: Net<Listener = TcpListener, Stream = TcpStream>>(
     }
 }
 
-// What was told, and that the sessions which are still open find the desks closed.
-fn compare<R: Abort>(
+// What was told, that the sessions which are still open find the desks closed, and that no other server may have the files: a call that
+// hangs may still reach them.
+fn compare<R: Abort + Files<File = File> + Clone + Drop>(
     rt: &R,
     alloc: Global,
     visited: &Visited<'_>,
@@ -159,6 +170,9 @@ fn compare<R: Abort>(
     must(rt, said == visited.said.as_bytes(), visited.said, &said);
     for host in hosts {
         perform(rt, alloc, host, busy())?;
+    }
+    for file in &[visited.site.one, visited.site.two] {
+        must(rt, is_refused(rt, alloc, *file)?, *file, &"not locked");
     }
     Ok(())
 }
@@ -207,6 +221,20 @@ fn story<'a>(site: Site<'a>, left: Site<'a>, visits: [&'a str; 2]) -> [Visited<'
     ]
 }
 
+// What the array of a site is asked for, its log, and by what administrators reach it.
+fn begun<'a, R: Abort + Net<Listener = TcpListener, Stream = TcpStream> + Clock>(
+    rt: &R,
+    alloc: Global,
+    site: &Site<'a>,
+) -> Result<(Options<'a>, Log, Administration<'a>), Fail>
+    ensures { IfOk result (λ begun. length begun.0.paths.items ≤ MAX_UNITS) }
+{
+    let options = site.options(alloc)?;
+    let log = Log::off().counting(Arc::new(alloc, Meters::new(alloc, 2)?)?);
+    let administration = administration(rt, &log, site.window(), site.control)?;
+    Ok((options, log, administration))
+}
+
 #[test]
 fn units_have_their_files_and_portals_their_groups(rt: HostRuntime) -> Result<(), Fail> {
     let alloc = rt.alloc();
@@ -217,13 +245,9 @@ fn units_have_their_files_and_portals_their_groups(rt: HostRuntime) -> Result<()
     let before = filled(alloc, before(), found())?;
     let after = filled(alloc, after(), found())?;
     for visited in story(site, left, [before.as_str(), after.as_str()]) {
-        let options = visited.site.options(alloc)?;
-        let mut hosts = Vec::new(alloc);
-        let mut said = Vec::new(alloc);
+        let (mut hosts, mut said) = (Vec::new(alloc), Vec::new(alloc));
+        let (options, log, administration) = begun(&rt, alloc, &visited.site)?;
         let reader = BufReader::new(alloc, console_lines(&rt, alloc, &visited, &mut hosts))?;
-        let log = Log::off().counting(Arc::new(alloc, Meters::new(alloc, 2)?)?);
-        let (window, control) = (visited.site.window(), visited.site.control);
-        let administration = Some(administration(&rt, &log, window, control)?);
         let Ok(array) = open(&rt, alloc, &log, &options) else {
             return Err("an array that is opened".into());
         };
@@ -233,7 +257,42 @@ fn units_have_their_files_and_portals_their_groups(rt: HostRuntime) -> Result<()
             &options,
             array,
             &log,
-            administration,
+            Some(administration),
+            reader,
+            &mut said,
+        );
+        assert!(rt; end.is_ok());
+        compare(&rt, alloc, &visited, said.as_slice(), hosts.as_mut_slice())?;
+    }
+    fs::remove_dir_all(&rt, folder.as_str())?;
+    Ok(())
+}
+
+// A function that serves is a test's own: so this one has the calls of the other one, over files whose calls have a deadline.
+#[test]
+fn they_have_them_where_calls_have_a_deadline(rt: HostRuntime) -> Result<(), Fail> {
+    let alloc = rt.alloc();
+    let process = process::id(rt.process()).wrapping_add(OTHER_PORTS);
+    let folder = new_folder(&rt, alloc, process)?;
+    let paths = paths(alloc, folder.as_str())?;
+    let (site, left) = sites(&rt, process, &paths)?;
+    let before = filled(alloc, before(), found())?;
+    let after = filled(alloc, after(), found())?;
+    for visited in story(site, left, [before.as_str(), after.as_str()]) {
+        let (mut hosts, mut said) = (Vec::new(alloc), Vec::new(alloc));
+        let (options, log, administration) = begun(&rt, alloc, &visited.site)?;
+        let reader = BufReader::new(alloc, console_lines(&rt, alloc, &visited, &mut hosts))?;
+        let Ok(parts) = open_files(&rt, alloc, &log, &options) else {
+            return Err("files that are opened".into());
+        };
+        let end = serve_timed(
+            &rt,
+            alloc,
+            &options,
+            parts,
+            Duration::from_secs(PATIENCE),
+            &log,
+            Some(administration),
             reader,
             &mut said,
         );
