@@ -138,8 +138,8 @@ pub fn find<R: Abort + Net<Listener = TcpListener, Stream = TcpStream> + Files<F
     let answer = got(rt, alloc, site.window(), "/recent")?;
     let first = "{\"step_seconds\":10,\"points\":[{\"at\":";
     must(rt, answer.as_str().contains(first), "/recent", &answer);
-    let units = "\"units\":[{\"reads\":0,\"writes\":0,\"read_bytes\":0,";
-    must(rt, answer.as_str().contains(units), "/recent", &answer);
+    // How much was read by then depends on the moment.
+    must(rt, answer.as_str().contains("\"units\":[{\"reads\":"), "/recent", &answer);
     Ok(())
 }
 
