@@ -19,7 +19,7 @@ from running import PORT, TARGET, Array, made
 BLOCKS = 64 * 2048
 # Why, says docs/TESTING.md.
 MAY_FAIL = {"CompareAndWrite.Simple", "CompareAndWrite.Miscompare", "Inquiry.BlockLimits", "iSCSIdatasn.iSCSIDataSnInvalid",
-            "Sanitize.Readonly", "Write10.Residuals", "Write16.Residuals"}
+            "Sanitize.Readonly", "iSCSIResiduals.Write10Residuals", "iSCSIResiduals.Write16Residuals"}
 
 
 class Tried:

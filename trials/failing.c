@@ -212,7 +212,9 @@ ssize_t read(int handle, void *bytes, size_t size)
 
 ssize_t recv(int socket, void *bytes, size_t size, int flags)
 {
-    count_read(1);
+    /* a look whether somebody is there takes nothing */
+    if (!(flags & MSG_PEEK))
+        count_read(1);
     return syscall(SYS_recvfrom, socket, bytes, size, flags, NULL, NULL);
 }
 

@@ -5,11 +5,15 @@ whose controllers have up to four portals; or those of whatever else a script st
 usage: trials/free_port.py
 """
 
+import collections
+import contextlib
+import fcntl
 import itertools
 import os
 import random
 import socket
 import sys
+import tempfile
 
 HOST, APART = "127.0.0.1", 4
 # Below those that the system gives to whoever names none.
@@ -17,6 +21,9 @@ FIRST, BEHIND, TOGETHER = 20000, 30000, 16
 COUNT = (BEHIND - FIRST) // TOGETHER
 # In an order of this process, in which none comes again before all others did: what was given just now may not be taken yet.
 TRIED = {}
+# The files by which no other script takes what was given last here, before somebody listens there.
+HELD = collections.deque(maxlen=16)
+PLACE = os.path.join(tempfile.gettempdir(), "arrayd-ports")
 
 
 def tried():
@@ -37,10 +44,31 @@ def is_free(port):
     return True
 
 
+def is_left(port):
+    """Whether no other script was given these last; then it is this one's for a while."""
+    with contextlib.suppress(OSError):
+        os.mkdir(PLACE)
+        os.chmod(PLACE, 0o1777)
+    try:
+        file = os.open(os.path.join(PLACE, str(port)), os.O_RDONLY | os.O_CREAT, 0o644)
+    except OSError:
+        # nobody can say so here
+        return True
+    try:
+        fcntl.flock(file, fcntl.LOCK_EX | fcntl.LOCK_NB)
+    except OSError:
+        os.close(file)
+        return False
+    if len(HELD) == HELD.maxlen:
+        os.close(HELD.popleft())
+    HELD.append(file)
+    return True
+
+
 def free_port():
     """The first of so many free ports, other ones at each call."""
     for port in itertools.islice(tried(), COUNT):
-        if all(is_free(port + above) for above in range(TOGETHER)):
+        if is_left(port) and all(is_free(port + above) for above in range(TOGETHER)):
             return port
     sys.exit(f"no {TOGETHER} ports are free")
 

@@ -44,6 +44,11 @@ def glibc():
     return "" if known and ("GLIBC" in known.stdout or "GNU" in known.stdout) else "the GNU C library"
 
 
+def qemu_iscsi():
+    known = subprocess.run(["qemu-img", "--help"], capture_output=True, text=True, check=False).stdout if shutil.which("qemu-img") else ""
+    return "" if "iscsi" in known.split() else "a qemu-img that speaks iSCSI (Debian: qemu-block-extra)"
+
+
 HERE = os.path.dirname(os.path.abspath(__file__))
 CC, RT, RUSTC, QEMU = commands("cc"), commands("rt"), commands("rustc"), commands("qemu-system-x86_64")
 MACHINES = folder("TWO_MACHINES", "trials/two_machines.py build FOLDER")
@@ -87,7 +92,7 @@ TRIALS = [
     Trial("calls", "calls.py --jobs 2", None, [CC], 300, 0, "a failure of a disk that is not told; a GOOD before its flush"),
     Trial("calls_in_place", "calls.py --in-place --jobs 2", None, [CC], 300, 0, "the same, where each flush is the device's, under its unit's lock"),
     Trial("calls_with_deadline", "calls.py --deadline --jobs 2", None, [CC], 300, 0, "the same, where each call has a deadline"),
-    Trial("clients", "clients.py", None, [commands("qemu-img", "qemu-nbd", "iscsi-ls", "iscsi-test-cu", "fio")], 300, 0,
+    Trial("clients", "clients.py", None, [commands("qemu-nbd", "iscsi-ls", "iscsi-test-cu", "fio"), qemu_iscsi], 300, 0,
           "a host that reads a standard otherwise than we: libiscsi, qemu, fio"),
     Trial("linux_host", "linux_host.py run $LINUX_HOST", None, [QEMU, LINUX], 900, 0,
           "a kernel, a multipath or a cluster's command that does not get on with the array", DOWNLOADS, True),
