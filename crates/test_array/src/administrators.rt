@@ -139,7 +139,12 @@ pub fn find<R: Abort + Net<Listener = TcpListener, Stream = TcpStream> + Files<F
     let first = "{\"step_seconds\":10,\"points\":[{\"at\":";
     must(rt, answer.as_str().contains(first), "/recent", &answer);
     // How much was read by then depends on the moment.
-    must(rt, answer.as_str().contains("\"units\":[{\"reads\":"), "/recent", &answer);
+    must(
+        rt,
+        answer.as_str().contains("\"units\":[{\"reads\":"),
+        "/recent",
+        &answer,
+    );
     Ok(())
 }
 
