@@ -105,7 +105,8 @@ class Bench:
         for disk in self.disks:
             made(disk, SIZE // 512)
         if self.on:
-            # what is read is in memory
+            # what the one before has left to be written is none of this one's, and what is read is in memory
+            os.sync()
             for disk in self.disks:
                 with open(disk, "rb") as file:
                     file.read(CACHED)
