@@ -32,7 +32,7 @@ MOVED = [f"unit={unit} owner={owner} states={states} by=console"
          for unit, owner, states in [(0, 2, "3,0"), (1, 2, "3,0"), (2, 2, "3,0"), (0, 1, "0,1"), (1, 2, "1,0"), (2, 1, "0,1"),
                                      (0, 1, "0,3"), (1, 1, "0,3"), (2, 1, "0,3"), (0, 1, "0,1"), (1, 2, "1,0"), (2, 1, "0,1"),
                                      (0, 1, "0,3"), (1, 1, "0,3"), (2, 1, "0,3")]]
-HELP = ["status", "health", "sessions", "keys U", "version", "help", "acknowledge", "end TSIH", "down 1, down 2", "up 1, up 2", "quit"]
+HELP = ["status", "health", "units", "sessions", "keys U", "version", "help", "acknowledge", "end TSIH", "down 1, down 2", "up 1, up 2", "quit"]
 # The last line of an answer: done, not done, no such line.
 DONE, NOT_DONE, UNKNOWN = ". 0", ". 1", ". 2"
 # As many discovery sessions, with connections whose login is not over, as there may be, and as many connections as attended to at once.
@@ -102,6 +102,18 @@ def is_closed(session):
         return session.socket.recv(1) == b""
     except ConnectionError:
         return True
+
+
+@case
+def names_of_units(folder):
+    """By what hosts know a unit is what INQUIRY tells them."""
+    with array_in(folder, 2) as array:
+        session, wanted = host(1), []
+        for unit in range(2):
+            naa, serial = session.inquiry(unit, 0x83)[8:16].hex(), session.inquiry(unit, 0x80)[4:].decode()
+            wanted.append(f'unit {unit} wwid 3{naa} serial {serial} blocks 4096 disk "{folder}/disk{unit}"')
+        is_so("units", asked(folder, "units"), wanted)
+        array.quit()
 
 
 @case
@@ -175,7 +187,8 @@ def session_that_is_ended(folder):
         again = host(1)
         is_so("it came again", again.read(0, 0, 1), bytes(512))
         array.quit()
-        is_so("the log", any(f"tsih={tsih} " in line + " " for line in lines(log, "session_ended")), True)
+        ended = [line for line in lines(log, "session_ended") if f"tsih={tsih} " in line]
+        is_so("the log", [line.rsplit(" ", 1)[1] for line in ended], ["why=by_console"])
         is_so("the orders", orders(log), ['"end 65535"', f'"end {tsih}"', f'"end {tsih}"'])
 
 
@@ -377,7 +390,9 @@ def discovery_sessions(folder):
             guest.close()
         is_so("they leave", until(lambda: count() == 0), True)
         array.quit()
-        is_so("the log", sum("why=too_many_wait" in line for line in lines(log, "session_ended")), 13)
+        told = [line for event in ("login", "session_ended") for line in lines(log, event) if "type=discovery" in line]
+        others = [int(line.rsplit("=", 1)[1]) for line in lines(log, "discoveries")]
+        is_so("the log", len(told) + sum(others), 2 * (GUESTS + 12))
 
 
 @case

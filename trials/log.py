@@ -238,6 +238,19 @@ def logins_that_are_refused(folder, log):
 
 
 @case
+def discoveries(folder, log):
+    """Of as many discovery sessions as whoever comes begins and ends, few are told; those of hosts have lines of their own."""
+    with Array([disk(folder)], log=log.path) as array:
+        for _ in range(100):
+            Session("127.0.0.1", PORT, None).logout()
+        login().logout()
+        log.find("session_ended", why="logout", type="normal")
+        array.quit()
+    is_so("told one by one", sum(line.get("type") == "discovery" for line in log.all()), 32)
+    log.find("discoveries", count="168")
+
+
+@case
 def connections_that_are_pushed_out(folder, log):
     with Array([disk(folder)], log=log.path) as array:
         guest = Session("127.0.0.1", PORT, None, "iqn.2000-01.test:guest")
@@ -253,14 +266,16 @@ def connections_that_are_pushed_out(folder, log):
 @case
 def orders_by_the_control_socket(folder, log):
     with Array([disk(folder)], log=log.path, more={"ARRAYD_CONTROL": folder + "/control"}) as array:
-        for line in (b"status\n", b"end 9\n", b"down 1\n", b"up 1\n", b"acknowledge\n", b"no\x1b\n"):
+        host = login()
+        for line in (b"status\n", b"end %d\n" % host.tsih, b"end 9\n", b"down 1\n", b"up 1\n", b"acknowledge\n", b"no\x1b\n"):
             with socket.socket(socket.AF_UNIX) as peer:
                 peer.connect(folder + "/control")
                 peer.sendall(line)
                 peer.recv(100)
+        log.find("session_ended", why="by_console", tsih=str(host.tsih), type="normal")
         array.quit()
     is_so("the orders", [(line["by"], line["line"]) for line in log.all() if line["event"] == "order"],
-          [("control", line) for line in ("end 9", "down 1", "up 1", "acknowledge")])
+          [("control", line) for line in (f"end {host.tsih}", "end 9", "down 1", "up 1", "acknowledge")])
 
 
 # ---- units

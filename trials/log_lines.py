@@ -94,7 +94,7 @@ def disk(folder, name="disk", blocks=64):
 
 # Which field of which event has the words of which definition.
 WORDS = [
-    ("login", "type", "session_type_text"), ("login_refused", "words", "statuses"), ("login_refused", "lacks", " lacks="),
+    ("login", "type", "session_type_text"), ("session_ended", "type", "session_type_text"), ("login_refused", "words", "statuses"), ("login_refused", "lacks", " lacks="),
     ("session_ended", "words", "rejects"), ("session_ended", "why", " why="), ("connection_ended", "why", " why="),
     ("groups_set", "by", " by="), ("not_moved", "by", " by="), ("not_moved", "why", "stayed_text"),
     ("reservation", "action", "action_text"), ("command_failed", "command", "operation_text"), ("busy", "command", "operation_text"),

@@ -10,7 +10,7 @@ use std::io::{self, Write};
 use std::sync::Wait;
 use std::thread;
 use std::time::{Clock, Duration};
-use window::{ArrayView, Collector, Registration, Seen, SessionView, health};
+use window::{ArrayView, Collector, Registration, Seen, SessionView, UnitView, health, spelled};
 
 /// So many milliseconds lie between two looks whether a session is over that was ended, and so often is looked.
 const LOOK: u64 = 5;
@@ -19,6 +19,7 @@ const LOOKS: u32 = 1000;
 
 const HELP: &str = "status         a line for each unit
 health         a line for each thing that is wrong or degraded, or ok
+units          a line for each unit: by what hosts know it, and its disk
 sessions       a line for each session that is logged in
 keys U         a line for each registration of a unit
 version        the version of the program
@@ -81,6 +82,14 @@ fn deed_in(text: &str) -> Option<Deed> {
     }
 }
 
+// Writes a line for a unit. The name of its disk stands last and between quotes, spelled as the log spells names.
+fn say_unit<W: Write>(alloc: Global, writer: &mut W, unit: &UnitView) -> io::Result<()> {
+    let (place, wwid, serial) = (unit.unit, unit.wwid.as_str(), unit.serial.as_str());
+    write!(writer, "unit {place} wwid {wwid} serial {serial} ")?;
+    let (blocks, disk) = (unit.blocks, spelled(alloc, unit.disk.as_bytes())?);
+    writeln!(writer, "blocks {blocks} disk \"{disk}\"")
+}
+
 // Writes a line for a session. The name of its initiator, which a host chose, stands last and between quotes.
 fn say_session<W: Write>(writer: &mut W, session: &SessionView) -> io::Result<()> {
     let (tsih, controller, kind) = (session.tsih, session.controller, session.kind);
@@ -134,6 +143,13 @@ impl<R: Wait + Clock + Drop, A: Administered + Drop> Answers<R, A> {
     // What is seen of the array: its sessions, and what is wrong.
     fn view(&self, alloc: Global) -> io::Result<ArrayView> {
         Ok(self.collector.collect(alloc, Seen::Health)?)
+    }
+
+    fn say_units<W: Write>(&self, alloc: Global, writer: &mut W) -> io::Result<()> {
+        for unit in &self.view(alloc)?.units {
+            say_unit(alloc, writer, unit)?;
+        }
+        Ok(())
     }
 
     fn say_sessions<W: Write>(&self, alloc: Global, writer: &mut W) -> io::Result<()> {
@@ -193,6 +209,7 @@ impl<R: Wait + Clock + Drop, A: Administered + Drop> Answers<R, A> {
         match text {
             "status" => self.collector.array.say_status(&self.collector.rt, writer)?,
             "health" => return self.say_health(alloc, writer),
+            "units" => self.say_units(alloc, writer)?,
             "sessions" => self.say_sessions(alloc, writer)?,
             "version" => self.say_version(writer)?,
             "help" => writer.write_all(HELP.as_bytes())?,

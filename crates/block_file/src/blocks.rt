@@ -1,3 +1,4 @@
+//! What every device of blocks keeps, and where it says more of what it holds.
 ghost use Rattle.std.specs.Prelude.{◌≡◌, ◌<◌, ◌≤◌, ◌+◌, ◌/◌, ◌^◌, List, ℕ, Bool, length, min, IsTrue, IfOk, OnOk};
 ghost use Rattle.block_file.specs.declared.blocks.TheConstants.{BLOCK_LENGTH};
 ghost use Rattle.block_file.specs.Cut.{run_of, IsRun};

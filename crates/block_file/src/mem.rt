@@ -1,3 +1,4 @@
+//! A device in memory, whose calls never fail.
 ghost use Rattle.std.specs.Prelude.{◌≡◌, ◌<◌, ◌≤◌, ◌+◌, ◌*◌, ◌/◌, ◌^◌, ◌++◌, length, take, drop, replicate};
 ghost use Rattle.std.specs.Prelude.{true, false, refl, IfOk, IsOk};
 ghost use Rattle.std.proofs.Common.{arith};

@@ -1,3 +1,4 @@
+//! How the controller that takes a unit over opens its disk anew.
 ghost use Rattle.std.specs.Prelude.{◌≡◌, ◌<◌, ◌≤◌, ℕ, Bool, true, IsTrue, IsOk, OnOk, OnErr};
 ghost use Rattle.std.proofs.Common.{arith};
 ghost use Rattle.block_file.specs.Disk.{HoldsTheSame};

@@ -1,3 +1,4 @@
+//! How a command on the medium ends, as the unit that asked for it is told.
 /// How a command on the medium ended.
 #[derive(Clone, Copy, PartialEq, Eq)]
 pub enum MediumEnd {

@@ -1,3 +1,4 @@
+//! A device whose loss of power can be tried.
 ghost use Rattle.std.specs.Prelude.{◌≡◌, ◌<◌, ◌*◌, length, true, ℕ, reverse, min, IfOk, IsTrue};
 ghost use Rattle.std.proofs.Common.{arith};
 ghost use Rattle.block_file.specs.declared.blocks.TheConstants.{BLOCK_LENGTH};

@@ -1,3 +1,4 @@
+//! What a device keeps of what it was asked, for a loss of power.
 /// What was asked of a device.
 #[derive(Drop)]
 pub enum Event {

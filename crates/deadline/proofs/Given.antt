@@ -1,5 +1,5 @@
 -- What was written is what was given to be written, and a flush behind more writes is one behind fewer.
-use Rattle.std.proofs.Common.{◌≡◌, ◌≤◌, ℕ, List, Bool, sym, ap, subst, arith}
+use Rattle.std.proofs.Common.{◌≡◌, ◌≤◌, ℕ, List, sym, ap, subst, arith}
 use Rattle.disk_files.specs.Lasting.{IsSettled}
 use Rattle.disk_preparer.specs.declared.Node.{Node}
 use Rattle.deadline.specs.Answers.{Calls, given_to, HasWritten}

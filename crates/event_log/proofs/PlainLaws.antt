@@ -13,7 +13,7 @@ use Rattle.std.proofs.lemmas.List.Folds.{list_all-append}
 use Rattle.event_log.specs.Words.{access_text, session_type_text, stayed_text, action_text, operation_text, part_text, call_text, resource_text}
 use Rattle.event_log.specs.Words.{unusable_text, named, statuses, status_text, rejects, reject_text, errors, error_text}
 use Rattle.event_log.specs.Text.{is_plain, are_plain, hex_digit, escaped, escaped_by, quoted, joined, hex, initiator_in, path_in, by_in, cause_in}
-use Rattle.event_log.specs.Text.{why_in, session_in, error_in}
+use Rattle.event_log.specs.Text.{why_in, session_in, error_in, numbered_in}
 use Rattle.event_log.specs.Text.{parts, text_of}
 use Rattle.event_log.specs.declared.words.Cause.{Cause}
 use Rattle.event_log.specs.declared.words.Cause.TheVariants as causes
@@ -210,6 +210,7 @@ why (whys.Rejected reason opcode tag) =
 why whys.Gap = refl
 why whys.NoMemory = refl
 why whys.PushedOut = refl
+why whys.ByConsole = refl
 
 session : (who : Initiator) (group : ℕ) → all_plain (session_in who group) ≡ true
 session who group = both _ _ (number group) (initiator who [] refl)
@@ -226,18 +227,19 @@ each (events.CannotControl n) = error n
 each events.Ready = refl
 each events.Stopping = refl
 each (events.LoggedIn who by tsih kind) =
-    let rest : List (List ℕ) = codes " tsih=" ∷ decimal tsih ∷ codes " type=" ∷ session_type_text kind ∷ [] in
+    let rest : List (List ℕ) = numbered_in tsih kind [] in
     initiator who (path_in by rest) (path by rest (both _ _ (number tsih) (both _ _ (session_type_plain kind) refl)))
 each (events.LoginRefused who by status lacks) =
     let rest : List (List ℕ) = codes " status=0x" ∷ hex status ∷ codes " words=\"" ∷ status_text status ∷ codes "\"" ∷ cause_in lacks
     in initiator who (path_in by rest)
     (path by rest (both _ _ (hexed status) (both _ _ (status_plain status) (cause lacks))))
-each (events.SessionEnded who by tsih end) =
-    let rest : List (List ℕ) = codes " tsih=" ∷ decimal tsih ∷ why_in end in
-    initiator who (path_in by rest) (path by rest (both _ _ (number tsih) (why end)))
+each (events.SessionEnded who by tsih kind end) =
+    let rest : List (List ℕ) = numbered_in tsih kind (why_in end) in
+    initiator who (path_in by rest) (path by rest (both _ _ (number tsih) (both _ _ (session_type_plain kind) (why end))))
 each (events.ConnectionEnded by end) = path by (why_in end) (why end)
 each (events.ConnectionsEnded count) = both _ _ (number count) refl
 each (events.LoginsRefused count) = both _ _ (number count) refl
+each (events.Discoveries count) = both _ _ (number count) refl
 each (events.Ordered what) = both _ _ (quoted_plain what.now) refl
 each (events.GroupsSet unit group first second by) =
     both _ _ (number unit) (both _ _ (number group) (both _ _ (access_plain first) (both _ _ (access_plain second) (by_plain by))))

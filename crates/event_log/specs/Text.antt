@@ -9,6 +9,7 @@ use Rattle.event_log.specs.declared.words.Cause.TheVariants as causes
 use Rattle.event_log.specs.declared.words.Why.{Why}
 use Rattle.event_log.specs.declared.words.Why.TheVariants as whys
 use Rattle.event_log.specs.declared.words.Sense.{Sense}
+use Rattle.event_log.specs.declared.words.SessionType.{SessionType}
 use Rattle.event_log.specs.declared.words.Operation.{Operation}
 use Rattle.event_log.specs.declared.words.Part.{Part}
 use Rattle.event_log.specs.declared.words.Access.{Access}
@@ -102,6 +103,11 @@ why_in (whys.Rejected reason opcode tag) =
 why_in whys.Gap = codes " why=protocol_error words=\"CmdSN leaves a gap\"" ∷ []
 why_in whys.NoMemory = codes " why=no_memory" ∷ []
 why_in whys.PushedOut = codes " why=too_many_wait" ∷ []
+why_in whys.ByConsole = codes " why=by_console" ∷ []
+
+-- the number of a session, and its kind
+abbrev pub numbered_in : ℕ → SessionType → List (List ℕ) → List (List ℕ)
+numbered_in tsih kind rest = codes " tsih=" ∷ decimal tsih ∷ codes " type=" ∷ session_type_text kind ∷ rest
 
 -- a session at a unit: the tag of its group, and its initiator port
 abbrev pub session_in : Initiator → ℕ → List (List ℕ)
@@ -153,16 +159,16 @@ parts (events.CannotControl error) = codes "event=cannot_control" ∷ error_in e
 parts events.Ready = codes "event=ready" ∷ []
 parts events.Stopping = codes "event=stopping" ∷ []
 parts (events.LoggedIn who path tsih kind) =
-    codes "event=login" ∷ initiator_in who (path_in path
-    (codes " tsih=" ∷ decimal tsih ∷ codes " type=" ∷ session_type_text kind ∷ []))
+    codes "event=login" ∷ initiator_in who (path_in path (numbered_in tsih kind []))
 parts (events.LoginRefused who path status cause) =
     codes "event=login_refused" ∷ initiator_in who (path_in path
     (codes " status=0x" ∷ hex status ∷ codes " words=\"" ∷ status_text status ∷ codes "\"" ∷ cause_in cause))
-parts (events.SessionEnded who path tsih why) =
-    codes "event=session_ended" ∷ initiator_in who (path_in path (codes " tsih=" ∷ decimal tsih ∷ why_in why))
+parts (events.SessionEnded who path tsih kind why) =
+    codes "event=session_ended" ∷ initiator_in who (path_in path (numbered_in tsih kind (why_in why)))
 parts (events.ConnectionEnded path why) = codes "event=connection_ended" ∷ path_in path (why_in why)
 parts (events.ConnectionsEnded count) = codes "event=connections_ended count=" ∷ decimal count ∷ []
 parts (events.LoginsRefused count) = codes "event=logins_refused count=" ∷ decimal count ∷ []
+parts (events.Discoveries count) = codes "event=discoveries count=" ∷ decimal count ∷ []
 parts (events.Ordered what) = codes "event=order by=control line=" ∷ quoted what.now ∷ []
 parts (events.GroupsSet unit group first second by) = set_in unit group first second (by_in by)
 parts (events.NotMoved unit group why by) = stay_in unit group why (by_in by)

@@ -65,14 +65,16 @@ pub enum Event<'a> {
     LoggedIn(Initiator<'a>, Path, u16, SessionType),
     /// A login was refused: Status-Class and Status-Detail (RFC 7143, 11.13.5), and what the array lacked.
     LoginRefused(Initiator<'a>, Path, u16, Cause),
-    /// A session ended that had logged in: its TSIH, and why.
-    SessionEnded(Initiator<'a>, Path, u16, Why),
+    /// A session ended that had logged in: its TSIH and kind, and why.
+    SessionEnded(Initiator<'a>, Path, u16, SessionType, Why),
     /// A connection ended that had not.
     ConnectionEnded(Path, Why),
     /// So many more ended so, of which no line tells.
     ConnectionsEnded(u64),
     /// So many more logins were refused, of which no line tells.
     LoginsRefused(u64),
+    /// So many more discovery sessions began or ended, of which no line tells.
+    Discoveries(u64),
     /// An administrator told the array this line by the control socket, which is no mere question.
     Ordered(&'a [u8]),
     /// The access states of a unit's groups were set: the tag of the one that is active/optimized now, and the states of both.

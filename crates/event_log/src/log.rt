@@ -9,7 +9,7 @@ use crate::spelling::spell;
 use crate::stamp::Stamp;
 use crate::strangers::Strangers;
 use crate::unflushed::UnflushedTally;
-use crate::words::{Call, Part};
+use crate::words::{Call, Part, SessionType};
 use std::alloc::{AllocError, Global};
 use std::hint::spin_loop;
 use std::sync::atomic::{AtomicU64, Ordering};
@@ -38,9 +38,10 @@ pub(crate) struct Waiting {
     pub(crate) lines: String,
     // The line that is spelled.
     line: String,
-    // Connections that end without a login, and logins that are refused.
+    // Connections that end without a login, logins that are refused, and discovery sessions that begin or end.
     pub(crate) strangers: Strangers,
     pub(crate) refused: Strangers,
+    pub(crate) discoveries: Strangers,
 }
 
 /// What all hands that hold a log share.
@@ -65,6 +66,7 @@ impl Waiting {
             line: String::with_capacity(alloc, UNTIMED)?,
             strangers: Strangers::none(),
             refused: Strangers::none(),
+            discoveries: Strangers::none(),
         })
     }
 
@@ -73,6 +75,10 @@ impl Waiting {
         let is_told = match event {
             Event::ConnectionEnded(..) => self.strangers.is_told(now.as_secs()),
             Event::LoginRefused(..) => self.refused.is_told(now.as_secs()),
+            Event::LoggedIn(_, _, _, SessionType::Discovery)
+            | Event::SessionEnded(_, _, _, SessionType::Discovery, _) => {
+                self.discoveries.is_told(now.as_secs())
+            }
             _ => true,
         };
         !is_told || self.keep(event)

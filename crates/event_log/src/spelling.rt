@@ -3,7 +3,7 @@ ghost use Rattle.std.specs.Prelude.{◌≡◌, ◌∷◌, [], OnOk};
 ghost use Rattle.std.specs.Fmt.{decimal};
 ghost use Rattle.std.specs.String.{string_bytes};
 ghost use Rattle.event_log.specs.Text.{by_in, cause_in, command_in, error_in, failed_in, file_in, initiator_in, joined, parts, path_in};
-ghost use Rattle.event_log.specs.Text.{portal_in, sense_in, session_in, stay_in, unusable_in, why_in};
+ghost use Rattle.event_log.specs.Text.{numbered_in, portal_in, sense_in, session_in, stay_in, unusable_in, why_in};
 ghost use Rattle.event_log.specs.declared.event.Event.TheVariants as events;
 ghost use Rattle.event_log.specs.declared.words.Why.TheVariants as whys;
 
@@ -120,6 +120,7 @@ fn why(line: &mut String, why: Why) -> Result<(), AllocError>
         Why::Gap => line.push_str(" why=protocol_error words=\"CmdSN leaves a gap\""),
         Why::NoMemory => line.push_str(" why=no_memory"),
         Why::PushedOut => line.push_str(" why=too_many_wait"),
+        Why::ByConsole => line.push_str(" why=by_console"),
     }
 }
 
@@ -201,6 +202,21 @@ fn file(line: &mut String, what: &str, unit: u8, part: Part) -> Result<(), Alloc
     )
 }
 
+// The number of a session, and its kind.
+fn numbered(line: &mut String, tsih: u16, kind: SessionType) -> Result<(), AllocError>
+    ensures { OnOk result (string_bytes line.new ≡ joined (string_bytes line.old) (numbered_in tsih kind [])) }
+{
+    put(
+        line,
+        &[
+            Text(" tsih="),
+            Number(u64::from(tsih)),
+            Text(" type="),
+            Text(kind.text()),
+        ],
+    )
+}
+
 fn logged_in(
     line: &mut String,
     who: &Initiator<'_>,
@@ -212,15 +228,7 @@ fn logged_in(
         ≡ joined (string_bytes line.old) (parts (events.LoggedIn who.now by.now tsih kind))) }
 {
     came(line, "event=login", who, by)?;
-    put(
-        line,
-        &[
-            Text(" tsih="),
-            Number(u64::from(tsih)),
-            Text(" type="),
-            Text(kind.text()),
-        ],
-    )
+    numbered(line, tsih, kind)
 }
 
 fn refused(
@@ -252,13 +260,14 @@ fn session_ended(
     who: &Initiator<'_>,
     by: &Path,
     tsih: u16,
+    kind: SessionType,
     end: Why,
 ) -> Result<(), AllocError>
     ensures { OnOk result (string_bytes line.new
-        ≡ joined (string_bytes line.old) (parts (events.SessionEnded who.now by.now tsih end))) }
+        ≡ joined (string_bytes line.old) (parts (events.SessionEnded who.now by.now tsih kind end))) }
 {
     came(line, "event=session_ended", who, by)?;
-    counted(line, " tsih=", u64::from(tsih))?;
+    numbered(line, tsih, kind)?;
     why(line, end)
 }
 
@@ -481,10 +490,13 @@ pub fn spell(line: &mut String, event: &Event<'_>) -> Result<(), AllocError>
         Event::Stopping => line.push_str("event=stopping"),
         Event::LoggedIn(who, by, tsih, kind) => logged_in(line, who, by, *tsih, *kind),
         Event::LoginRefused(who, by, status, lacks) => refused(line, who, by, *status, *lacks),
-        Event::SessionEnded(who, by, tsih, end) => session_ended(line, who, by, *tsih, *end),
+        Event::SessionEnded(who, by, tsih, kind, end) => {
+            session_ended(line, who, by, *tsih, *kind, *end)
+        }
         Event::ConnectionEnded(by, end) => connection_ended(line, by, *end),
         Event::ConnectionsEnded(count) => counted(line, "event=connections_ended count=", *count),
         Event::LoginsRefused(count) => counted(line, "event=logins_refused count=", *count),
+        Event::Discoveries(count) => counted(line, "event=discoveries count=", *count),
         Event::Ordered(what) => put(line, &[Text("event=order by=control line="), Name(what)]),
         Event::GroupsSet(unit, group, first, second, whom) => {
             set(line, *unit, *group, *first, *second, whom)

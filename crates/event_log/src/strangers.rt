@@ -1,5 +1,5 @@
-//! What whoever reaches a portal may make as many of as he likes, connections that end without a login, or logins that are refused: of a
-//! spell, a line tells each of the first ones, and one more how many others there were.
+//! What whoever reaches a portal may make as many of as he likes, connections that end without a login, logins that are refused, or
+//! discovery sessions: of a spell, a line tells each of the first ones, and one more how many others there were.
 
 /// So many seconds a spell lasts.
 const SPELL: u64 = 60;

@@ -46,6 +46,8 @@ pub enum Why {
     NoMemory,
     /// Another one came, and as many as may were waiting for the end of their login already.
     PushedOut,
+    /// An administrator ended it.
+    ByConsole,
 }
 
 /// Why a unit stayed.

@@ -75,24 +75,30 @@ pub fn put_line(lines: &mut String, when: Stamp, event: &Event<'_>) -> Result<()
     lines.push('\n')
 }
 
+// Puts the line that tells of so many others, where there are any.
+fn put_sum(lines: &mut String, now: Stamp, count: u64, sum: &Event<'_>) {
+    if count != 0 {
+        let _ = put_line(lines, now, sum);
+    }
+}
+
 // Takes the lines that wait, and behind them what sums up others, and how many were dropped: how many that are.
 fn take<R: Wait + Clock>(rt: &R, shared: &Shared, lines: &mut String, is_last: bool) -> u64 {
     let since = rt.since_1970().unwrap_or(Duration::ZERO);
     let now = Stamp::of(since);
     lines.clear();
-    let (untold, ended, refused) = {
+    let (untold, ended, refused, discoveries) = {
         let mut waiting = shared.waiting.lock(rt);
         let untold = waiting.give_time(now);
         mem::swap(&mut waiting.lines, lines);
         let ended = waiting.strangers.sum(since.as_secs(), is_last);
-        (untold, ended, waiting.refused.sum(since.as_secs(), is_last))
+        let refused = waiting.refused.sum(since.as_secs(), is_last);
+        let discoveries = waiting.discoveries.sum(since.as_secs(), is_last);
+        (untold, ended, refused, discoveries)
     };
-    if ended != 0 {
-        let _ = put_line(lines, now, &Event::ConnectionsEnded(ended));
-    }
-    if refused != 0 {
-        let _ = put_line(lines, now, &Event::LoginsRefused(refused));
-    }
+    put_sum(lines, now, ended, &Event::ConnectionsEnded(ended));
+    put_sum(lines, now, refused, &Event::LoginsRefused(refused));
+    put_sum(lines, now, discoveries, &Event::Discoveries(discoveries));
     let dropped = shared
         .dropped
         .swap(0, Ordering::SeqCst)

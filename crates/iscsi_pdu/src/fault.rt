@@ -1,3 +1,4 @@
+//! Why bytes spell no PDU.
 use thiserror::Error;
 
 /// Why bytes spell no PDU: the first fault in this order, each found as soon as its bytes are there.

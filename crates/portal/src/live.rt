@@ -76,6 +76,8 @@ pub struct Table<C> {
     last: u16,
     // How many sessions have begun.
     begun: u64,
+    // The numbers of those that live whose connection an administrator has ended, as far as there was memory for them.
+    ended: Vec<u64>,
 }
 
 impl<C> Model for Table<C> {
@@ -110,10 +112,11 @@ fn shut_older<C: Connection>(live: &[LiveSession<C>], new: &NewSession) {
     }
 }
 
-// Ends the connection of the session with this TSIH.
-fn shut_one<C: Connection>(live: &[LiveSession<C>], tsih: u16) {
+// Ends the connection of the session with this TSIH, and keeps its number where there is memory for it.
+fn shut_one<C: Connection>(live: &[LiveSession<C>], tsih: u16, ended: &mut Vec<u64>) {
     for session in live {
         if session.tsih == tsih {
+            let _ = ended.push(session.number);
             session.connection.shut();
         }
     }
@@ -144,6 +147,7 @@ impl<C> Table<C> {
             live: Vec::new(alloc),
             last: 0,
             begun: 0,
+            ended: Vec::new(alloc),
         }
     }
 
@@ -185,6 +189,7 @@ impl<C> Table<C> {
         ensures { self.new ≡ record self.old { live = without number self.old.live } }
     {
         remove(&mut self.live, number);
+        self.ended.retain(|ended| *ended != number);
     }
 
     /// Whether the session with this TSIH lives, and is of this port.
@@ -201,14 +206,21 @@ impl<C> Table<C> {
         self.live.iter().any(|session| session.tsih == tsih)
     }
 
-    /// Ends the connection of the session with this TSIH, where one lives: whether one does.
-    pub fn shut(&self, tsih: u16) -> bool
+    /// Ends the connection of the session with this TSIH for an administrator, where one lives: whether one does.
+    pub fn shut(&mut self, tsih: u16) -> bool
     where
         C: Connection,
-        ensures { result ≡ list_any (λ s. nat_eq s.tsih tsih) self.now.live }
+        ensures lived { result ≡ list_any (λ s. nat_eq s.tsih tsih) self.old.live }
+        ensures unchanged { self.new ≡ self.old }
     {
-        shut_one(&self.live, tsih);
+        shut_one(&self.live, tsih, &mut self.ended);
         self.has_tsih(tsih)
+    }
+
+    /// Whether an administrator has ended the connection of the session with this number, which is not over yet. No: also where there
+    /// was no memory to keep that.
+    pub fn was_shut(&self, number: u64) -> bool {
+        self.ended.contains(&number)
     }
 
     /// Whether the session with this number lives.

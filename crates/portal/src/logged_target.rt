@@ -24,12 +24,15 @@ pub struct Visitor {
     pub name: Vec<u8>,
     /// Its ISID.
     pub isid: u64,
-    /// Its TSIH, 0 before it has begun.
+    /// Its TSIH, 0 before it has begun, and what it is for.
     pub tsih: u16,
+    pub kind: event_log::SessionType,
     /// What it lacked to begin.
     pub lacks: Cause,
     /// Another one took its place.
     pub is_replaced: bool,
+    /// An administrator ended it.
+    pub was_shut: bool,
 }
 
 impl Visitor {
@@ -39,8 +42,10 @@ impl Visitor {
             name: Vec::new(alloc),
             isid: 0,
             tsih: 0,
+            kind: event_log::SessionType::Normal,
             lacks: Cause::Request,
             is_replaced: false,
+            was_shut: false,
         }
     }
 
@@ -52,17 +57,19 @@ impl Visitor {
         }
     }
 
-    // Keeps its TSIH, or what it lacked to begin.
-    fn tried(&mut self, tried: Result<u16, BeginFault>) {
+    // Keeps what it is for and its TSIH, or what it lacked to begin.
+    fn tried(&mut self, tried: Result<u16, BeginFault>, kind: SessionType) {
+        self.kind = kind_of(kind);
         match tried {
             Ok(tsih) => self.tsih = tsih,
             Err(fault) => self.lacks = cause_of(fault),
         }
     }
 
-    // Keeps whether another one took its place, where it has begun.
-    fn end(&mut self, lives: bool) {
+    // Keeps whether another one took its place, where it has begun, and whether an administrator ended it.
+    fn end(&mut self, lives: bool, was_shut: bool) {
         self.is_replaced = self.tsih != 0 && !lives;
+        self.was_shut = was_shut;
     }
 
     /// The initiator port.
@@ -244,7 +251,7 @@ impl<'a, R: Wait + Clock, U: LogicalUnits + Drop, G: Gate + Drop, S: Sessions + 
     fn begin(&mut self, name: &[u8], isid: u64, kind: SessionType) -> BeginAnswer {
         self.visitor.meet(self.alloc, self.observer.log, name, isid);
         let tried = self.target.try_begin(name, isid, kind);
-        self.visitor.tried(tried);
+        self.visitor.tried(tried, kind);
         self.teller().tried(tried, kind);
         let who = self.visitor.initiator();
         self.observer.enter(self.alloc, who, tried, kind_of(kind));
@@ -259,8 +266,8 @@ impl<'a, R: Wait + Clock, U: LogicalUnits + Drop, G: Gate + Drop, S: Sessions + 
     }
 
     fn end(&mut self) {
-        let lives = self.target.is_live();
-        self.visitor.end(lives);
+        let (lives, was_shut) = (self.target.is_live(), self.target.was_shut());
+        self.visitor.end(lives, was_shut);
         self.target.end();
         self.observer.leave();
     }

@@ -126,6 +126,9 @@ fn why(end: End, visitor: &Visitor, is_lost: bool) -> Result<Why, u16> {
         } => Ok(Why::Rejected(reason, opcode, tag)),
         End::Gap => Ok(Why::Gap),
         End::Reinstated => Ok(Why::Replaced),
+        End::EndOfInput | End::InputFailed | End::OutputFailed if visitor.was_shut => {
+            Ok(Why::ByConsole)
+        }
         End::EndOfInput | End::InputFailed | End::OutputFailed if visitor.is_replaced => {
             Ok(Why::Replaced)
         }
@@ -150,8 +153,8 @@ fn tell_end<R: Clock>(
         Err(status) => log.tell(rt, &Event::LoginRefused(named, path, status, visitor.lacks)),
         Ok(why) if visitor.tsih == 0 => log.tell(rt, &Event::ConnectionEnded(path, why)),
         Ok(why) => {
-            let ended = Event::SessionEnded(visitor.initiator(), path, visitor.tsih, why);
-            log.tell(rt, &ended);
+            let (who, tsih, kind) = (visitor.initiator(), visitor.tsih, visitor.kind);
+            log.tell(rt, &Event::SessionEnded(who, path, tsih, kind, why));
         }
     }
 }

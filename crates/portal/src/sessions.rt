@@ -38,6 +38,9 @@ pub trait Sessions {
 
     /// Whether the session with this number lives.
     fn has<R: Wait>(&self, rt: &R, number: u64) -> bool;
+
+    /// Whether an administrator has ended it.
+    fn was_shut<R: Wait>(&self, rt: &R, number: u64) -> bool;
 }
 
 /// A table of sessions, as the thread has it that holds its lock. What its calls say is of the table before it and of the one behind it:
@@ -77,6 +80,8 @@ pub trait Living {
         ensures { left self.old number self.new };
 
     fn has(&self, number: u64) -> bool;
+
+    fn was_shut(&self, number: u64) -> bool;
 }
 
 impl<C: Connection + Drop> Living for Table<C> {
@@ -108,6 +113,10 @@ impl<C: Connection + Drop> Living for Table<C> {
     fn has(&self, number: u64) -> bool {
         self.has(number)
     }
+
+    fn was_shut(&self, number: u64) -> bool {
+        self.was_shut(number)
+    }
 }
 
 impl<T: Living> Sessions for Mutex<T> {
@@ -136,5 +145,9 @@ impl<T: Living> Sessions for Mutex<T> {
 
     fn has<R: Wait>(&self, rt: &R, number: u64) -> bool {
         self.lock(rt).has(number)
+    }
+
+    fn was_shut<R: Wait>(&self, rt: &R, number: u64) -> bool {
+        self.lock(rt).was_shut(number)
     }
 }

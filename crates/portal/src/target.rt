@@ -451,6 +451,14 @@ impl<'a, R: Wait, U: LogicalUnits + Drop, G: Gate + Drop, S: Sessions + Drop> Se
         }
     }
 
+    /// Whether the session has begun, and an administrator has ended it.
+    pub(crate) fn was_shut(&self) -> bool {
+        match self.number {
+            Some(number) => self.device.sessions.was_shut(self.rt, number),
+            None => false,
+        }
+    }
+
     // Serves a command of a unit that is there.
     fn serve_at(&mut self, unit: u8, asked: &Asked, bytes: &[u8]) -> TargetAnswer
         ensures { IsServedAt U.claims (late_of G.is_late G.lasts) U.opening self.old unit asked.now bytes.now result self.new }

@@ -1,3 +1,4 @@
+//! What a session finds where the next PDU is to stand.
 ghost use Rattle.session.specs.Front.{IsFront};
 
 use iscsi_coding::decode;

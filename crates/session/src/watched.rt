@@ -1,3 +1,4 @@
+//! What counts the failures of a reader or a writer of `std`.
 ghost use Rattle.std.specs.Prelude.{◌≡◌};
 ghost use Rattle.session.specs.Watched.{WatchedValue};
 

@@ -1,3 +1,4 @@
+//! What the two halves of a turn hand to each other: what is to be written, and what the target is asked.
 ghost use Rattle.std.specs.Prelude.{◌≡◌};
 ghost use Rattle.session_full_feature.specs.Step.{call_data, end_of, said};
 

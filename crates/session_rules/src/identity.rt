@@ -1,3 +1,4 @@
+//! What initiators are told of a target.
 use std::net::SocketAddrV4;
 
 /// Who the target of a session is.

@@ -1,3 +1,4 @@
+//! What a turn of a login comes to.
 ghost use Rattle.std.specs.Prelude.{◌≡◌, Option};
 ghost use Rattle.session_rules.specs.LoginPhase.{login_end, begins};
 

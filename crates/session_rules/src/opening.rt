@@ -1,3 +1,4 @@
+//! How a session begins: with a login or behind it.
 use crate::start::Start;
 use login::SessionType;
 

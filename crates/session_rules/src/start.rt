@@ -1,3 +1,4 @@
+//! The numbers that a login hands to full feature phase.
 use crate::lengths::Lengths;
 
 /// The numbers and the lengths with which a session begins.

@@ -1,3 +1,4 @@
+//! What a session asks of its target, and how that answers.
 ghost use Rattle.std.specs.Prelude.{◌≡◌, ℕ};
 ghost use Rattle.session_rules.specs.Asking.{Asking, began, lives, served, reset, over};
 ghost use Rattle.session_rules.specs.Handle.{HasHandle};

@@ -1,3 +1,4 @@
+//! How long the answer to a Text Request may be.
 use iscsi_pdu::MAX_DATA_SEGMENT_LENGTH;
 
 /// The longest answer to a Text Request, in bytes: what a data segment has at most. The length that the initiator takes is

@@ -1,3 +1,4 @@
+//! The bytes that wait to leave, and when they do.
 ghost use Rattle.std.specs.Prelude.{◌≡◌, ◌+◌, ◌++◌, ◌<◌, ◌≤◌, [], false, true, length, vec_capacity, IfOk, Some};
 ghost use Rattle.session_stream.specs.Pdus.{AreInReach, data_ins_of, sent_by};
 ghost use Rattle.session_stream.specs.Outbox.{OutboxValue, IsQueued, IsAllOut};

@@ -1,3 +1,4 @@
+//! Where the bytes of a session come from and go to, with the failures counted.
 ghost use Rattle.std.specs.Prelude.{◌≡◌, ℕ, ◌<◌, ◌≤◌, List, Option, length, take, true, Err, IfOk, OnOk, OnErr};
 ghost use Rattle.session_stream.specs.declared.source.Unread.TheVariants.{Silence};
 ghost use Rattle.std.specs.Io.KnownBytes.{Keeps, Appends, Consumes, IsAtEnd};

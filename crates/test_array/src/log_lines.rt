@@ -82,6 +82,12 @@ fn events_are_spelled(rt: HostRuntime) -> Result<(), Fail> {
             "event=connections_ended count=8",
         ),
         (Event::LoginsRefused(8), "event=logins_refused count=8"),
+        (Event::Discoveries(8), "event=discoveries count=8"),
+        (
+            Event::SessionEnded(WHO, path(), 3, SessionType::Discovery, Why::ByConsole),
+            "event=session_ended initiator=\"iqn.a\\x0a\\\"b\\\\\\x1b[2J\\xff\" isid=0x400001370000 \
+             from=10.0.5.7:41022 portal=10.0.5.1:3264 tag=2 tsih=3 type=discovery why=by_console",
+        ),
         (
             Event::ConnectionEnded(path(), Why::PushedOut),
             "event=connection_ended from=10.0.5.7:41022 portal=10.0.5.1:3264 tag=2 why=too_many_wait",

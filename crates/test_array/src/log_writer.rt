@@ -1,6 +1,6 @@
 //! The thread that writes the lines of a log: how many lines were lost is told behind the next that are written.
 use crate::ends::must;
-use event_log::{Cause, Event, Initiator, Log, Page, Path, Why, close, start};
+use event_log::{Cause, Event, Initiator, Log, Page, Path, SessionType, Why, close, start};
 use std::alloc::Global;
 use std::fs::{self, File, OpenFile};
 use std::io;
@@ -159,6 +159,10 @@ fn written_of<R: Files<File = File> + Wait + Clock + Abort>(
             rt,
             &Event::LoginRefused(who, path(), 0x0203, Cause::Request),
         );
+        let discovery = SessionType::Discovery;
+        log.tell(rt, &Event::LoggedIn(who, path(), 1, discovery));
+        let ended = Event::SessionEnded(who, path(), 1, discovery, Why::Logout);
+        log.tell(rt, &ended);
     }
     log.tell(rt, &Event::Stopping);
     close(rt, log);
@@ -170,7 +174,7 @@ fn written_of<R: Files<File = File> + Wait + Clock + Abort>(
 
 // What strangers do fills no disk.
 #[test]
-fn ends_without_a_login_take_few_lines(rt: HostRuntime) {
+fn what_strangers_do_takes_few_lines(rt: HostRuntime) {
     let alloc = rt.alloc();
     let _ = fs::remove_file(&rt, OTHER);
     let page = There {
@@ -183,7 +187,12 @@ fn ends_without_a_login_take_few_lines(rt: HostRuntime) {
     let together = count_of(&text, " event=connections_ended count=968");
     let refused = count_of(&text, " words=\"Not found\"");
     let summed = count_of(&text, " event=logins_refused count=968");
+    let seen = (alone, together, refused, summed);
+    must(&rt, seen == (32, 1, 32, 1), "lines", &seen);
+    let begun = count_of(&text, " event=login ");
+    let ended = count_of(&text, " event=session_ended ");
+    let others = count_of(&text, " event=discoveries count=1968");
     let all = text.lines().count();
-    let seen = (alone, together, refused, summed, all);
-    must(&rt, seen == (32, 1, 32, 1, 67), "lines", &seen);
+    let seen = (begun, ended, others, all);
+    must(&rt, seen == (16, 16, 1, 100), "lines", &seen);
 }

@@ -19,7 +19,7 @@ pub const NODE: Node = Node {
 };
 
 /// So many milliseconds are a while.
-const A_WHILE: u64 = 100;
+const A_WHILE: u64 = 400;
 
 /// A file, of which one flush fails, counted from 0, or none; and one write, counted from 0, or none. Where it has a clock, that flush
 /// takes a while, and each other one twice as long. If it is to, it keeps a line for each write and flush of its device: of how many

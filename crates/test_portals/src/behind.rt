@@ -3,9 +3,9 @@ use array_administration::console;
 use array_operations::Operated;
 use block_file::{Blocks, Opener};
 use event_log::Log;
-use portal::Controllers;
+use portal::{Controllers, Socket, Table};
 use std::alloc::Global;
-use std::sync::Wait;
+use std::sync::{Mutex, Wait};
 use std::test::Fail;
 use std::time::Clock;
 use unit_history::Opened;
@@ -19,15 +19,19 @@ pub trait Console {
     /// What the lines of the program's console are answered. Behind them the desks are closed.
     fn answers(&self, alloc: Global, lines: &str) -> Result<String, Fail>;
 
+    /// Ends the session with this TSIH.
+    fn end(&self, tsih: u16);
+
     /// Closes the desks.
     fn close(&self);
 }
 
-/// The controllers of an array.
+/// The controllers of an array, and its sessions.
 #[derive(Drop)]
 pub struct Behind<'a, R: Wait, B: Blocks, F: Blocks, O: Opener<B>, N: Namings<Opened>> {
     pub rt: &'a R,
     pub controllers: &'a Controllers<B, F, O, N>,
+    pub sessions: &'a Mutex<Table<Socket>>,
 }
 
 impl<R: Wait + Clock, B: Blocks, F: Blocks, O: Opener<B>, N: Namings<Opened>> Console
@@ -51,6 +55,10 @@ impl<R: Wait + Clock, B: Blocks, F: Blocks, O: Opener<B>, N: Namings<Opened>> Co
         };
         let _ = console(alloc, lines.as_bytes(), &mut written, &mut operated);
         Ok(String::from_utf8(written)?)
+    }
+
+    fn end(&self, tsih: u16) {
+        let _ = self.sessions.lock(self.rt).shut(tsih);
     }
 
     fn close(&self) {

@@ -45,6 +45,9 @@ pub trait Scene {
     /// What the lines of the program's console are answered. Behind them the desks are closed.
     fn answers(&self, alloc: Global, lines: &str) -> Result<String, Fail>;
 
+    /// Ends the session with this TSIH, as an administrator does.
+    fn end(&self, tsih: u16);
+
     /// Closes the desks.
     fn close(&self);
 
@@ -125,6 +128,10 @@ impl<R: Wait + Clock + Net<Listener = TcpListener, Stream = TcpStream> + Drop, C
 
     fn answers(&self, alloc: Global, lines: &str) -> Result<String, Fail> {
         self.console.answers(alloc, lines)
+    }
+
+    fn end(&self, tsih: u16) {
+        self.console.end(tsih);
     }
 
     fn close(&self) {

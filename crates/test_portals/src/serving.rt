@@ -219,8 +219,11 @@ fn performed_before<
     disk: &Latch<R>,
     script: &Script<'_>,
 ) -> Vec<Host> {
-    let controllers = &server.device.units;
-    let behind = Behind { rt, controllers };
+    let behind = Behind {
+        rt,
+        controllers: &server.device.units,
+        sessions: &server.device.sessions,
+    };
     let scene = Portals::new(rt, portals, &server.device.gate, disk, &behind);
     performed(rt, alloc, &scene, script)
 }

@@ -31,6 +31,7 @@
 //! - `desks close`: the desks of both controllers are closed;
 //! - `128 wait 1`: so many connections to the portal of controller 1 send nothing;
 //! - `A hears`: something has come for it, which it leaves there; `A leaves`: its connection is closed, and it is called so no more;
+//! - `end 9`: an administrator ends the session with this TSIH;
 //! - `clock 11`: so many seconds pass.
 use crate::at::At;
 use crate::doors::Flushes;
@@ -214,6 +215,7 @@ impl<'a, R: Abort + Eprint, S: Scene> Stage<'a, R, S> {
             "console" => self.compare_answers(words),
             "gate" | "disk" | "flush" | "desks" => self.obey_behind(who, verb, rest),
             "all" => self.obey_all_hosts(verb, rest),
+            "end" => self.scene.end(self.number(words) as u16),
             "clock" => self.scene.pass(u64::from(self.number(words))),
             _ => self.obey_host(who, verb, rest),
         }

@@ -34,7 +34,7 @@ impl<R: Files<File = File> + Drop> Page for LogFile<R> {
 
 // J leaves before it has logged in. A logs out. B names a session that is not there. C sends a command in a session of discovery. D
 // leaves a gap in its CmdSN. F takes the place of E; G takes that of F, whose command waits before the unit meanwhile. G leaves. H
-// leaves before it has read an answer, and I while the array still writes answers to it.
+// leaves before it has read an answer, and I while the array still writes answers to it. An administrator ends the session of K.
 fn script() -> &'static str {
     r#"
 why sessions end
@@ -75,22 +75,26 @@ I power
 I hears
 clock 1
 I leaves
+K comes 2 / HOST_A / 15:09 WELCOME_2
+end 9
+K over
 "#
 }
 
 // What is told of these ends, in any order. A word that ends so is one of an address.
 fn wanted() -> &'static str {
     r#"
-session_ended initiator="iqn.2000-01.test:a" isid=0x400001370000 from= portal= tag=1 tsih=1 why=logout
+session_ended initiator="iqn.2000-01.test:a" isid=0x400001370000 from= portal= tag=1 tsih=1 type=normal why=logout
 login_refused initiator="iqn.2000-01.test:other" isid=0x0 from= portal= tag=1 status=0x20a words="Session does not exist"
-session_ended initiator="iqn.2000-01.test:a" isid=0x400001370000 from= portal= tag=1 tsih=2
+session_ended initiator="iqn.2000-01.test:a" isid=0x400001370000 from= portal= tag=1 tsih=2 type=discovery
   why=protocol_error reason=0x4 words="Protocol Error" opcode=0x1 task=0x1
-session_ended initiator="iqn.2000-01.test:b" isid=0x400001370000 from= portal= tag=1 tsih=3 why=protocol_error words="CmdSN leaves a gap"
-session_ended initiator="iqn.2000-01.test:b" isid=0x400001370000 from= portal= tag=1 tsih=4 why=replaced_by_same_initiator
-session_ended initiator="iqn.2000-01.test:b" isid=0x400001370000 from= portal= tag=1 tsih=5 why=replaced_by_same_initiator
-session_ended initiator="iqn.2000-01.test:b" isid=0x400001370000 from= portal= tag=1 tsih=6 why=connection_closed
-session_ended initiator="iqn.2000-01.test:a" isid=0x400001370000 from= portal= tag=2 tsih=7 why=connection_lost in=read
-session_ended initiator="iqn.2000-01.test:b" isid=0x400001370000 from= portal= tag=2 tsih=8 why=connection_lost in=write
+session_ended initiator="iqn.2000-01.test:b" isid=0x400001370000 from= portal= tag=1 tsih=3 type=normal why=protocol_error words="CmdSN leaves a gap"
+session_ended initiator="iqn.2000-01.test:b" isid=0x400001370000 from= portal= tag=1 tsih=4 type=normal why=replaced_by_same_initiator
+session_ended initiator="iqn.2000-01.test:b" isid=0x400001370000 from= portal= tag=1 tsih=5 type=normal why=replaced_by_same_initiator
+session_ended initiator="iqn.2000-01.test:b" isid=0x400001370000 from= portal= tag=1 tsih=6 type=normal why=connection_closed
+session_ended initiator="iqn.2000-01.test:a" isid=0x400001370000 from= portal= tag=2 tsih=7 type=normal why=connection_lost in=read
+session_ended initiator="iqn.2000-01.test:b" isid=0x400001370000 from= portal= tag=2 tsih=8 type=normal why=connection_lost in=write
+session_ended initiator="iqn.2000-01.test:a" isid=0x400001370000 from= portal= tag=2 tsih=9 type=normal why=by_console
 connection_ended from= portal= tag=1 why=connection_closed
 "#
 }
