@@ -189,8 +189,8 @@ fn what_strangers_do_takes_few_lines(rt: HostRuntime) {
     let summed = count_of(&text, " event=logins_refused count=968");
     let seen = (alone, together, refused, summed);
     must(&rt, seen == (32, 1, 32, 1), "lines", &seen);
-    let begun = count_of(&text, " event=login ");
-    let ended = count_of(&text, " event=session_ended ");
+    let begun = count_of(&text, " tsih=1 type=discovery");
+    let ended = count_of(&text, " type=discovery why=logout");
     let others = count_of(&text, " event=discoveries count=1968");
     let all = text.lines().count();
     let seen = (begun, ended, others, all);
