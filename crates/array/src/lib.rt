@@ -11,5 +11,5 @@ pub use array_administration::{
 };
 pub use array_operations::Operated;
 pub use disks::{FileArray, OpenArray, open};
-pub use served::{Serving, serve, tell_want};
+pub use served::{serve, tell_want};
 pub use timed::{FileParts, Parts, open_files, serve_timed};

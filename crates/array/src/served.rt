@@ -68,16 +68,6 @@ fn open_portals<R: Net<Listener = TcpListener, Stream = TcpStream> + Clock>(
     Ok((portals, found))
 }
 
-/// How an array is served, whatever its units are: what the words ask for, the log that is told, and the lines of its console with
-/// what they are answered.
-#[derive(Drop)]
-pub struct Serving<'a, I: BufRead + Drop, C: Write> {
-    pub options: &'a Options<'a>,
-    pub log: &'a Log,
-    pub reader: I,
-    pub writer: &'a mut C,
-}
-
 // The lanes of both controllers' desks.
 type Lanes = ([Lane; 4], [Lane; 4]);
 
@@ -177,18 +167,20 @@ impl<
     fn run<I: BufRead + Drop, C: Write>(
         rt: &'a R,
         alloc: Global,
-        open: (Vec<Portal>, Found),
+        options: &Options<'_>,
+        portals: Vec<Portal>,
+        found: Found,
         units: Vec<NewUnit<B, F, O>>,
         gate: G,
         sockets: Sockets,
-        serving: Serving<'_, I, C>,
+        reader: I,
+        writer: &mut C,
     ) -> Result<(), Fault>
         requires named { IsNamed N.book N.table N.opening B.contents units.items }
         requires count { length units.items ≤ MAX_UNITS }
     {
-        let (portals, found) = open;
         let served = Served::<N, B, F, O, G, R>::new(rt, alloc, found, units, gate)?;
-        served.start(serving.options, portals, sockets)?;
+        served.start(options, portals, sockets)?;
         let server = &served.server;
         server.log.tell(rt, &Event::Ready);
         let mut operated = Operated {
@@ -196,7 +188,7 @@ impl<
             controllers: &server.device.units,
             log: &server.log,
         };
-        let ended = attend(alloc, serving.reader, serving.writer, &mut operated);
+        let ended = attend(alloc, reader, writer, &mut operated);
         server.device.gate.close();
         ended
     }
@@ -247,9 +239,12 @@ fn serve_named<
 >(
     rt: &R,
     alloc: Global,
+    options: &Options<'_>,
     array: OpenArray<B, F, O, P>,
+    log: &Log,
     administration: Option<Administration<'_>>,
-    serving: Serving<'_, I, C>,
+    reader: I,
+    writer: &mut C,
 ) -> Result<(), Fault>
     requires named { IsNamed N.book N.table N.opening B.contents array.units.items }
     requires count { length array.units.items ≤ MAX_UNITS }
@@ -262,13 +257,12 @@ fn serve_named<
         locks,
     } = array;
     let gate = Prepared::<P, N>::new(preparers);
-    let log = serving.log;
     let path = control_path(&administration);
     let ended = match open(rt, log, administration) {
         Ok(sockets) => {
-            let ended = match open_portals(rt, alloc, serving.options, log) {
-                Ok(open) => Served::<N, B, F, O, Prepared<P, N>, R>::run(
-                    rt, alloc, open, units, gate, sockets, serving,
+            let ended = match open_portals(rt, alloc, options, log) {
+                Ok((portals, found)) => Served::<N, B, F, O, Prepared<P, N>, R>::run(
+                    rt, alloc, options, portals, found, units, gate, sockets, reader, writer,
                 ),
                 Err(fault) => Err(fault),
             };
@@ -311,12 +305,24 @@ pub fn serve<
 >(
     rt: &R,
     alloc: Global,
+    options: &Options<'_>,
     array: OpenArray<B, F, O, P>,
+    log: &Log,
     administration: Option<Administration<'_>>,
-    serving: Serving<'_, I, C>,
+    reader: I,
+    writer: &mut C,
 ) -> Result<(), Fault>
     requires count { length array.units.items ≤ MAX_UNITS }
     requires disks { map (λ new. B.OnDisk.disk new.unit.device) array.units.items ≡ map P.disk array.preparers.items }
 {
-    serve_named::<Brand, B, F, O, P, R, I, C>(rt, alloc, array, administration, serving)
+    serve_named::<Brand, B, F, O, P, R, I, C>(
+        rt,
+        alloc,
+        options,
+        array,
+        log,
+        administration,
+        reader,
+        writer,
+    )
 }

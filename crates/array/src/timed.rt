@@ -4,7 +4,7 @@ ghost use Rattle.std.specs.Arc.{arc_value};
 ghost use Rattle.unit_state.specs.Serials.{IsOpening};
 
 use crate::disks::{OpenArray, fault_of, open_blocks, open_preparer, open_record, place_of};
-use crate::served::{Serving, serve, tell_want};
+use crate::served::{serve, tell_want};
 use aptpl_file::RegFile;
 use array_administration::Administration;
 use block_file::{KeepOpener, Opener};
@@ -248,12 +248,14 @@ pub fn serve_timed<
 >(
     rt: &R,
     alloc: Global,
+    options: &Options<'_>,
     parts: Vec<Parts<B, F, O, P>>,
     patience: Duration,
+    log: &Log,
     administration: Option<Administration<'_>>,
-    serving: Serving<'_, I, C>,
+    reader: I,
+    writer: &mut C,
 ) -> Result<(), Fault> {
-    let log = serving.log;
     let array = match start_timed(rt, alloc, log, parts, patience) {
         Ok(array) => array,
         Err(fault) => {
@@ -262,5 +264,14 @@ pub fn serve_timed<
             return Err(fault);
         }
     };
-    serve(rt, alloc, array, administration, serving)
+    serve(
+        rt,
+        alloc,
+        options,
+        array,
+        log,
+        administration,
+        reader,
+        writer,
+    )
 }

@@ -13,7 +13,7 @@ mod target_name;
 mod told;
 
 use administration::Asked;
-use array::{Attended, Serving, open, open_files, serve, serve_timed, tell_want};
+use array::{Attended, open, open_files, serve, serve_timed, tell_want};
 use command_line::{Fault, MAX_UNITS, Options};
 use event_log::{Event, Log, start};
 use log_file::LogFile;
@@ -229,25 +229,34 @@ fn main(rt: HostRuntime) -> ExitCode {
             Ok(parts) => parts,
             Err(fault) => return give_up(&rt, &log, fault, &options, asked),
         };
-        let serving = Serving {
-            options: &options,
-            log: &log,
-            reader: Attended::new(rt.reader(), &log),
-            writer: &mut io::writer(&rt),
-        };
-        let served = serve_timed(&rt, alloc, parts, patience, administration, serving);
+        let reader = Attended::new(rt.reader(), &log);
+        let mut writer = io::writer(&rt);
+        let served = serve_timed(
+            &rt,
+            alloc,
+            &options,
+            parts,
+            patience,
+            &log,
+            administration,
+            reader,
+            &mut writer,
+        );
         return status_of_end(&rt, served, &options, asked);
     }
     let array = match open(&rt, alloc, &log, &options) {
         Ok(array) => array,
         Err(fault) => return give_up(&rt, &log, fault, &options, asked),
     };
-    let serving = Serving {
-        options: &options,
-        log: &log,
-        reader: Attended::new(rt.reader(), &log),
-        writer: &mut io::writer(&rt),
-    };
-    let served = serve(&rt, alloc, array, administration, serving);
+    let served = serve(
+        &rt,
+        alloc,
+        &options,
+        array,
+        &log,
+        administration,
+        Attended::new(rt.reader(), &log),
+        &mut io::writer(&rt),
+    );
     status_of_end(&rt, served, &options, asked)
 }

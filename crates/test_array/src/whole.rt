@@ -8,7 +8,7 @@ use crate::ends::must;
 use crate::hosts::perform;
 use crate::site::{Site, free_site, make};
 use crate::visits::{Visited, console_lines, is_refused};
-use array::{Administration, Serving, open, open_files, serve, serve_timed};
+use array::{Administration, open, open_files, serve, serve_timed};
 use command_line::{MAX_UNITS, Options};
 use event_log::{Log, Meters};
 use std::alloc::Global;
@@ -251,13 +251,16 @@ fn units_have_their_files_and_portals_their_groups(rt: HostRuntime) -> Result<()
         let Ok(array) = open(&rt, alloc, &log, &options) else {
             return Err("an array that is opened".into());
         };
-        let serving = Serving {
-            options: &options,
-            log: &log,
+        let end = serve(
+            &rt,
+            alloc,
+            &options,
+            array,
+            &log,
+            Some(administration),
             reader,
-            writer: &mut said,
-        };
-        let end = serve(&rt, alloc, array, Some(administration), serving);
+            &mut said,
+        );
         assert!(rt; end.is_ok());
         compare(&rt, alloc, &visited, said.as_slice(), hosts.as_mut_slice())?;
     }
@@ -282,14 +285,17 @@ fn they_have_them_where_calls_have_a_deadline(rt: HostRuntime) -> Result<(), Fai
         let Ok(parts) = open_files(&rt, alloc, &log, &options) else {
             return Err("files that are opened".into());
         };
-        let serving = Serving {
-            options: &options,
-            log: &log,
+        let end = serve_timed(
+            &rt,
+            alloc,
+            &options,
+            parts,
+            Duration::from_secs(PATIENCE),
+            &log,
+            Some(administration),
             reader,
-            writer: &mut said,
-        };
-        let patience = Duration::from_secs(PATIENCE);
-        let end = serve_timed(&rt, alloc, parts, patience, Some(administration), serving);
+            &mut said,
+        );
         assert!(rt; end.is_ok());
         compare(&rt, alloc, &visited, said.as_slice(), hosts.as_mut_slice())?;
     }
