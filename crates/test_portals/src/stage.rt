@@ -215,7 +215,7 @@ impl<'a, R: Abort + Eprint, S: Scene> Stage<'a, R, S> {
             "console" => self.compare_answers(words),
             "gate" | "disk" | "flush" | "desks" => self.obey_behind(who, verb, rest),
             "all" => self.obey_all_hosts(verb, rest),
-            "end" => self.scene.end(self.number(words) as u16),
+            "end" => self.scene.end(self.tsih(words)),
             "clock" => self.scene.pass(u64::from(self.number(words))),
             _ => self.obey_host(who, verb, rest),
         }
@@ -279,6 +279,11 @@ impl<'a, R: Abort + Eprint, S: Scene> Stage<'a, R, S> {
 
     // A decimal number.
     fn number(&self, word: &str) -> u32 {
+        word.parse().expect(self.at.rt, self.at.line)
+    }
+
+    // A session's TSIH.
+    fn tsih(&self, word: &str) -> u16 {
         word.parse().expect(self.at.rt, self.at.line)
     }
 
