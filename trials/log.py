@@ -27,7 +27,8 @@ from initiator import BUSY, GOOD, Refused, Session
 from log_lines import CASES, TIME, Log, case, disk
 from running import PORT, TARGET, Array, ended
 
-NOBODY = 65534
+# Limits of threads are those of all processes of a user: of this one there are no others.
+OWN_USER = 2_000_000 + os.getpid()
 
 # Each command that has a name in the log, and one that has none, at unit 1.
 COMMANDS = {
@@ -447,9 +448,9 @@ def want_of_descriptors(folder, log):
 def want_of_threads(folder, log):
     root()
     path = disk(folder)
-    os.chown(path, NOBODY, NOBODY)
-    os.chown(folder, NOBODY, NOBODY)
-    with Array([path], log=log.path, user=NOBODY, limit=(resource.RLIMIT_NPROC, (16, 16))):
+    os.chown(path, OWN_USER, OWN_USER)
+    os.chown(folder, OWN_USER, OWN_USER)
+    with Array([path], log=log.path, user=OWN_USER, limit=(resource.RLIMIT_NPROC, (16, 16))):
         held = [socket.create_connection(("127.0.0.1", PORT)) for _ in range(40)]
         log.find("wanting", what="thread")
         for one in held:

@@ -22,7 +22,8 @@ from free_port import free_port
 from initiator import Closed, Session
 from running import ARRAYD, TARGET, Array, Wrong, made
 
-NOBODY = 65534
+# Limits of threads are those of all processes of a user: of this one there are no others.
+OWN_USER = 2_000_000 + os.getpid()
 MOST = 40
 REFUSED = (Closed, ConnectionError)
 
@@ -131,7 +132,7 @@ def main():
         try:
             if os.getuid() == 0:
                 # The main thread, two accept loops and eight lanes come first.
-                lacks("threads", Wanting(own, folder, NOBODY, (resource.RLIMIT_NPROC, (17, 17))))
+                lacks("threads", Wanting(own, folder, OWN_USER, (resource.RLIMIT_NPROC, (17, 17))))
             else:
                 print("lack of threads: not tried, as this is not run as root")
             array = Wanting(own, folder)
