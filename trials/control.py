@@ -266,6 +266,8 @@ def controller_that_comes_up(folder):
         array.ask("down 2")
         before = array.ask("status", 3)
         is_so("up 1 while 2 is down", (asked(folder, "up 1"), array.ask("status", 3)), (["up"], before))
+        # the log is written by a thread of its own
+        until(lambda: len(lines(log, "groups_set")) >= len(MOVED))
         is_so("what moved is told", [line.split("groups_set ", 1)[1] for line in lines(log, "groups_set")], MOVED)
         array.ask("up 2")
         array.ask("down 1")

@@ -109,6 +109,8 @@ def program_of(folder):
         return os.path.abspath(named)
     print("compiling arrayd, unproved", flush=True)
     made = os.path.join(folder, "arrayd")
+    # users without rights run it too
+    os.chmod(folder, 0o755)
     subprocess.run([sys.executable, os.path.join(TOP, "tools", "unproved.py"), "program", made], check=True)
     return made
 

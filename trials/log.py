@@ -527,6 +527,7 @@ NEVER = {
     ("not_moved", "by", "session"): "a session is answered, and the line is command_failed",
     ("session_ended", "why", "no_memory"): "a session that has logged in has what it needs",
     ("connection_ended", "why", "logout"): "who has not logged in is refused: login_refused",
+    ("connection_ended", "why", "by_console"): "an administrator ends sessions alone, by the number that a login gave",
     ("connection_ended", "why", "replaced_by_same_initiator"): "who has not logged in has no place that another takes",
     ("command_failed", "command", "other"): "no other command reaches a device",
     ("device_failed", "error", "EAGAIN"): "no file is opened so that its calls do not wait",
