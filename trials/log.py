@@ -300,6 +300,7 @@ def hung(folder, log):
             with place.frozen():
                 is_so("writes", (write(session), write(session)), ("03 0C/00", "03 0C/00"))
                 log.find("hung", unit="0", file="disk", call="write")
+            log.find("back", unit="0", file="disk", call="write")
 
 
 @case
