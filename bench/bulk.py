@@ -2,11 +2,12 @@
 """What others keep beside a host that writes much more than the disk takes: arrayd, without and with a deadline, beside tgt where it
 is installed, or beside another build of itself. Each serves the same sparse files, in turn, to the same client on the loopback.
 The files lie on tmpfs below bench/page_cache.c, a page cache before a disk of 50 MB/s; with --loop on a file system on a loop
-device that the kernel's throttle holds to that pace, with vm.dirty_bytes of 256 MiB for the whole machine meanwhile: root may do
-that, where there is the cgroup `blkio` of version 1. Prints a line for each row and program; a bulk writer writes 256 KiB, 8 deep.
-It wants rustc and cc.
+device that the kernel's throttle holds to that pace, and with --devices each disk is such a loop device itself, with
+vm.dirty_bytes of 256 MiB for the whole machine meanwhile: root may do that, where there is the cgroup `blkio` of version 1.
+Prints a line for each row and program; a bulk writer writes 256 KiB, 8 deep. It wants rustc and cc.
 
-usage: bench/bulk.py [--seconds N] [--runs N] [--only WORDS] [--before PROGRAM] [--pace BYTES] [--loop FOLDER] [--without-tgt]
+usage: bench/bulk.py [--seconds N] [--runs N] [--only WORDS] [--before PROGRAM] [--pace BYTES] [--loop FOLDER | --devices FOLDER]
+                     [--without-tgt]
 
 The program is $ARRAYD, or ./arrayd.
 """
@@ -26,6 +27,7 @@ from beside import Arrayd, Tgt
 from running import ARRAYD, PORT, TARGET, Array, client, library, made
 
 SIZE = 1 << 30
+DISKS = "first.img", "second.img"
 # What is read, which is in memory.
 CACHED = 64 << 20
 DEADLINE = "20"
@@ -44,29 +46,63 @@ def put(path, text):
 
 
 @contextlib.contextmanager
-def slow_folder(below, pace):
-    """A file system on a loop device over a file in this folder, which writes so many bytes a second."""
+def slow_device(image, sectors, pace):
+    """A loop device over this file, which is made, that writes so many bytes a second."""
+    asked = ["losetup", "--find", "--show", "--direct-io=on", made(image, sectors)]
+    device = subprocess.run(asked, check=True, capture_output=True, text=True).stdout.strip()
+    number = os.stat(device).st_rdev
+    number = f"{os.major(number)}:{os.minor(number)}"
+    try:
+        put(THROTTLE, f"{number} {pace}")
+        yield device
+    finally:
+        put(THROTTLE, f"{number} 0")
+        subprocess.run(["losetup", "--detach", device])
+
+
+@contextlib.contextmanager
+def few_unflushed():
+    """The whole machine has 256 MiB at most that are not on its disks."""
     kept = {name: open(f"/proc/sys/vm/{name}").read() for name in ("dirty_ratio", "dirty_bytes")}
-    with tempfile.TemporaryDirectory(dir=below) as place:
-        image, folder = made(os.path.join(place, "image"), 8 << 21), os.path.join(place, "on")
+    try:
+        put(LIMIT, str(256 << 20))
+        yield
+    finally:
+        for name, value in kept.items():
+            if int(value):
+                put(f"/proc/sys/vm/{name}", value)
+
+
+@contextlib.contextmanager
+def slow_folder(below, pace):
+    """A file system on a slow loop device over a file in this folder."""
+    with tempfile.TemporaryDirectory(dir=below) as place, contextlib.ExitStack() as held:
+        folder = os.path.join(place, "on")
         os.mkdir(folder)
-        asked = ["losetup", "--find", "--show", "--direct-io=on", image]
-        device = subprocess.run(asked, check=True, capture_output=True, text=True).stdout.strip()
+        # it is made at the pace of the file below
+        device = held.enter_context(slow_device(os.path.join(place, "image"), 8 << 21, 0))
+        subprocess.run(["mkfs.ext4", "-q", "-E", "nodiscard,lazy_itable_init=0", device], check=True)
+        subprocess.run(["mount", device, folder], check=True)
+        held.callback(subprocess.run, ["umount", folder])
         number = os.stat(device).st_rdev
-        number = f"{os.major(number)}:{os.minor(number)}"
-        try:
-            subprocess.run(["mkfs.ext4", "-q", "-E", "nodiscard,lazy_itable_init=0", device], check=True)
-            subprocess.run(["mount", device, folder], check=True)
-            put(LIMIT, str(256 << 20))
-            put(THROTTLE, f"{number} {pace}")
-            yield folder
-        finally:
-            put(THROTTLE, f"{number} 0")
-            for name, value in kept.items():
-                if int(value):
-                    put(f"/proc/sys/vm/{name}", value)
-            subprocess.run(["umount", folder])
-            subprocess.run(["losetup", "--detach", device])
+        put(THROTTLE, f"{os.major(number)}:{os.minor(number)} {pace}")
+        held.enter_context(few_unflushed())
+        yield folder
+
+
+@contextlib.contextmanager
+def slow_disks(below, pace):
+    """A folder with two names of a slow loop device each, over files in this folder."""
+    with tempfile.TemporaryDirectory(dir=below) as place, contextlib.ExitStack() as held:
+        folder = os.path.join(place, "disks")
+        os.mkdir(folder)
+        held.enter_context(few_unflushed())
+        for name in DISKS:
+            device = held.enter_context(slow_device(os.path.join(place, name), SIZE // 512, pace))
+            os.symlink(device, os.path.join(folder, name))
+            # while somebody has it open it keeps what is in memory of it
+            held.enter_context(open(device, "rb"))
+        yield folder
 
 
 class Two(Arrayd):
@@ -96,14 +132,16 @@ class Bench:
             os.mkdir(self.folder)
             self.preloaded = {"LD_PRELOAD": library("bench/page_cache.c", place), "PAGE_CACHE": self.folder,
                               "CACHE_PACE": str(asked.pace)}
-        self.disks = [os.path.join(self.folder, name) for name in ("first.img", "second.img")]
+        self.disks = [os.path.join(self.folder, name) for name in DISKS]
 
     def serve(self, start, units=2):
-        for name in ("first.img", "second.img", "first.img.reg", "second.img.reg"):
-            if os.path.exists(os.path.join(self.folder, name)):
-                os.unlink(os.path.join(self.folder, name))
         for disk in self.disks:
-            made(disk, SIZE // 512)
+            with contextlib.suppress(FileNotFoundError):
+                os.unlink(f"{disk}.reg")
+            if not os.path.islink(disk):
+                with contextlib.suppress(FileNotFoundError):
+                    os.unlink(disk)
+                made(disk, SIZE // 512)
         if self.on:
             # what the one before has left to be written is none of this one's, and what is read is in memory
             os.sync()
@@ -206,7 +244,8 @@ def main():
     words.add_argument("--only", default="", help="only rows with these words")
     words.add_argument("--before", help="another arrayd, in place of tgt")
     words.add_argument("--pace", type=int, default=50_000_000, help="bytes that the disk writes in a second")
-    words.add_argument("--loop", help="a loop device over a file in this folder, in place of the library")
+    words.add_argument("--loop", help="files on a loop device over a file in this folder, in place of the library")
+    words.add_argument("--devices", help="loop devices over files in this folder, in place of the library")
     words.add_argument("--without-tgt", action="store_true", help="arrayd alone")
     asked = words.parse_args()
     sides = [("arrayd", Two), ("arrayd with a deadline", lambda disks: Two(disks, deadline=DEADLINE))]
@@ -227,7 +266,10 @@ def main():
     ]
     with contextlib.ExitStack() as held:
         place = held.enter_context(tempfile.TemporaryDirectory(dir="/dev/shm"))
-        on = held.enter_context(slow_folder(asked.loop, asked.pace)) if asked.loop else None
+        on = None
+        if asked.loop or asked.devices:
+            slow, below = (slow_folder, asked.loop) if asked.loop else (slow_disks, asked.devices)
+            on = held.enter_context(slow(below, asked.pace))
         bench = Bench(place, asked, on)
         for row, run in rows:
             if asked.only not in row:
