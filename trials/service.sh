@@ -25,7 +25,11 @@ is() {
 }
 
 console() {
-    service/arrayd-console --limit 20 "$place/run" "$@" 2>&1
+    if [ "$1" = --limit ]; then
+        service/arrayd-console "$1" "$2" "$place/run" "$3" 2>&1
+    else
+        service/arrayd-console --limit 20 "$place/run" "$@" 2>&1
+    fi
 }
 
 begin() {
@@ -58,6 +62,17 @@ is 'down 1' "$(console down 1)" down
 is 'and the other controller owns both units' "$(console status | sed 's/ generation.*//')" 'unit 0 owner 2 states 3 0
 unit 1 owner 2 states 3 0'
 is 'a line that it does not know is not asked' "$(console up 3 > "$place/up"; echo $?)" 2
+is 'nor is a session whose number no session has' "$(console end 65536 > "$place/up"; echo $?)" 2
+is 'nor is it asked within a time that is none' "$(for limit in x -1 1e9; do console --limit $limit status > "$place/up"; echo $?; done)" '2
+2
+2'
+kill -STOP "$pid"
+is 'what an array that stands still was told it may still do' "$(service/arrayd-console --limit 1 "$place/run" down 2 2>&1; echo $?)" \
+    'arrayd-console: no answer within 1 seconds: it was told `down 2`, and may do so yet
+3'
+kill -CONT "$pid"
+until [ "$(console status | grep -c 'states 0 3')" = 2 ]; do sleep 0.1; done
+is 'and does' "$(console down 1)" down
 is 'two that ask at once each get their own answer' "$(for i in 1 2 3 4 5 6 7 8; do console status & done | grep -c '^unit [01] owner 2')" 16
 echo status > "$place/run/console"
 is 'what an echo has asked is not taken for an answer' "$(console down 1)" down
@@ -161,7 +176,7 @@ is 'who may look asks for status' "$(look | sed 's/ entries.*//')" 'unit 0 owner
 unit 1 owner 2 states 1 0 generation 0 keys 0 type 0
 0'
 is 'for sessions, keys and the version' "$(look sessions) $(look keys 0) $(look keys 7) $(look version | head -1)" "0 0 no unit
-0 $("$ARRAYD" --version)"
+1 $("$ARRAYD" --version)"
 is 'and for nothing else' "$(look quit) $(look down 1) $(look end 3) $(look up 1)" '2 2 2 2'
 refused=$(python3 - "$place/run.status" << 'END'
 import socket, sys
@@ -186,7 +201,6 @@ is 'and says that one which stands still does not answer' "$? $(cat "$place/watc
 kill -CONT "$pid"
 console quit
 ends
-kill "$door" 2> /dev/null
 at=127.0.0.1:$(python3 trials/free_port.py)
 export ARRAYD_HTTP="$at"
 begin unit0 unit1
@@ -204,7 +218,15 @@ session.command(0, [0x28, 0, 0, 0, 0, 100, 0, 0, 1, 0], expected=512)
 END
 service/arrayd-watch "$place/run" > "$place/watch" 2>&1
 is 'what is wrong is one, and told' "$? $(grep -c 'unit 0.*call=read' "$place/watch")" '1 1'
+is 'as it is to who may only look' "$(look health | grep -c 'unit 0.*call=read') $(look health | tail -1)" '1 1'
 truncate -s 8M "$place/disk0"
+console quit
+ends
+kill "$door" 2> /dev/null
+mv "$place/state/unit0.reg" "$place/away"
+begin unit0 unit1
+is 'a registration file that is gone is told' "$(cat "$place/complains")" \
+    'arrayd-run: unit0.reg is gone, so nobody is registered with unit0, and no fence holds'
 console quit
 ends
 unset ARRAYD_HTTP
@@ -227,6 +249,13 @@ IPAddressAllow=10.0.7.9/32
 IPAddressDeny=
 IPAddressDeny=any
 0'
+is 'and so are the addresses at which it listens, since packets of the machine itself come from there' \
+    "$(OPTIONS='--host=10.0.5.1' ARRAYD_HOST2=127.0.0.2 ARRAYD_HTTP=10.0.6.1:9860 HOSTS=10.0.7.9 prepared one | grep 'Allow=[1-9]')" \
+    'IPAddressAllow=10.0.7.9/32
+IPAddressAllow=10.0.5.1/32
+IPAddressAllow=10.0.6.1/32'
+is 'an address of the options is one, however it is spelled' \
+    "$(for host in '--host 10.0.5.9' '--host=10.0.5.9'; do OPTIONS="$host" HOSTS=any prepared one; done | grep -c 'Allow=10.0.5.9/32')" 2
 is 'no disk and no host where none is said' "$(OPTIONS='--host 203.0.113.77' prepared one | grep -v =$)" 'User=arrayd-one
 IPAddressAllow=localhost
 IPAddressDeny=any
@@ -235,9 +264,10 @@ is 'where its networks are asked for, as the system has them' "$(OPTIONS='--host
 is 'a host that is none is refused' "$(HOSTS='10.0.5.0/24 host7' prepared one)" "arrayd-prepare: HOSTS: 'host7' does not appear to be an IPv4 or IPv6 network
 2"
 is 'and a name of which no user can be made' "$(prepared one.two; prepared abcdefghijklmnopqrstuvwxyz | tail -1)" \
-    'arrayd-prepare: the name one.two: it has letters, digits, - and _ alone, and 24 at most
+    'arrayd-prepare: the name one.two: it has letters, digits, - and _ alone, 24 at most, and does not begin with -
 2
 2'
+is 'an option that there is not is no name' "$(prepared --help | tail -1)" 2
 
 if command -v systemd-analyze > /dev/null; then
     # as it is installed, under a root of its own
