@@ -28,7 +28,10 @@ flushes_send F b c s = recorded_send _ _ _ (flushes_type F b c).to_one (struct_s
     search (sendable, crosses) depth 20,
     (
       search (sendable, crosses) depth 20,
-      (search (sendable, crosses) depth 20, (search (sendable, crosses) depth 20, tt)),
+      (
+        search (sendable, crosses) depth 20,
+        (search (sendable, crosses) depth 20, (search (sendable, crosses) depth 20, tt)),
+      ),
     ),
   ),
 ))
@@ -125,7 +128,10 @@ preparer_send R F b c s t = recorded_send _ _ _ (preparer_type R F b c).to_one (
             search (sendable, crosses) depth 20,
             (
               search (sendable, crosses) depth 20,
-              (search (backlog_send, sendable, crosses) depth 20, (search (sendable, crosses) depth 20, tt)),
+              (
+                search (backlog_send, sendable, crosses) depth 20,
+                (search (sendable, crosses) depth 20, (search (sendable, crosses) depth 20, tt)),
+              ),
             ),
           ),
         ),
@@ -150,7 +156,10 @@ preparer_sync R F b c s t = recorded_sync _ _ _ (preparer_type R F b c).to_one (
             search (sendable, crosses) depth 20,
             (
               search (sendable, crosses) depth 20,
-              (search (backlog_sync, sendable, crosses) depth 20, (search (sendable, crosses) depth 20, tt)),
+              (
+                search (backlog_sync, sendable, crosses) depth 20,
+                (search (sendable, crosses) depth 20, (search (sendable, crosses) depth 20, tt)),
+              ),
             ),
           ),
         ),

@@ -31,8 +31,18 @@ const OF_KERNEL: u64 = 3;
 /// A session tells so many bytes at a time.
 const TOLD: u64 = 65536;
 
-/// A flush of so many bytes shows how fast the disk is.
+/// A flush of so many bytes shows how fast the disk is, where they were written within so many microseconds: older ones the system has
+/// likely written by itself. While one flush runs into the other it is looked at so many apart at least.
 const SHOWS: u64 = 1 << 20;
+
+const RECENT: u64 = 5_000_000;
+
+const APART: u64 = 50_000;
+
+/// A disk counts for so many times as fast as before at most, and for no slower than so many bytes a second.
+const FASTER: u64 = 4;
+
+const SLOWEST: u64 = 65536;
 
 /// What nobody waits less for, in microseconds, and what nobody waits longer for at once.
 const SHORT: u64 = 1000;
@@ -49,13 +59,23 @@ const DUE: u64 = 1;
 
 const OVER: u64 = 2;
 
-/// A flush that has begun: how many bytes of writes had ended, and how many of them were flushed; and when it began, where no other one
-/// ran, in microseconds.
+/// A flush that has begun: how many bytes of writes had ended, and whether those behind the flush before it were written of late, or
+/// while that one ran.
 #[derive(Clone, Copy)]
 pub struct Begun {
     ended: u64,
-    flushed: u64,
-    alone: Option<u64>,
+    is_recent: bool,
+}
+
+/// How a flush has ended.
+#[derive(Clone, Copy, PartialEq, Eq)]
+pub enum FlushEnd {
+    /// The disk has made it.
+    Made,
+    /// There was nothing to make.
+    Needless,
+    /// It failed.
+    Failed,
 }
 
 /// What was written to a disk and not flushed, in bytes.
@@ -64,10 +84,15 @@ pub struct Backlog {
     ended: AtomicU64,
     flushed: AtomicU64,
     begun: AtomicU64,
-    // How many flushes run; when the one that began alone did, and 0 where none runs that did; how many have begun so.
+    // How many flushes run; and when one began or ended last.
     running: AtomicU64,
+    last: AtomicU64,
+    // Since when the disk has flushed without a break, and 0 where none runs; and up to which byte its pace was looked at.
     since: AtomicU64,
+    shown: AtomicU64,
+    // How often a part of the bound was written, or a flush began alone; and up to which byte that was.
     round: AtomicU64,
+    rounded: AtomicU64,
     // What the disk flushes in a second, and what may be unflushed.
     pace: AtomicU64,
     bound: AtomicU64,
@@ -86,8 +111,11 @@ impl Drop for Backlog {
             flushed: _,
             begun: _,
             running: _,
+            last: _,
             since: _,
+            shown: _,
             round: _,
+            rounded: _,
             pace: _,
             bound: _,
             is_full: _,
@@ -133,8 +161,11 @@ impl Backlog {
             flushed: AtomicU64::new(0),
             begun: AtomicU64::new(0),
             running: AtomicU64::new(0),
+            last: AtomicU64::new(0),
             since: AtomicU64::new(0),
+            shown: AtomicU64::new(0),
             round: AtomicU64::new(0),
+            rounded: AtomicU64::new(0),
             pace: AtomicU64::new(FIRST_PACE),
             bound: AtomicU64::new(LEAST),
             is_full: AtomicBool::new(false),
@@ -155,9 +186,14 @@ impl Backlog {
         self.settle();
     }
 
+    /// How much of what was written is flushed.
+    pub fn flushed(&self) -> u64 {
+        self.flushed.load(Ordering::Relaxed)
+    }
+
     /// What has been written and is not known to be flushed.
     pub fn unflushed(&self) -> u64 {
-        let flushed = self.flushed.load(Ordering::Relaxed);
+        let flushed = self.flushed();
         self.ended.load(Ordering::Relaxed).saturating_sub(flushed)
     }
 
@@ -252,48 +288,74 @@ impl Backlog {
 
     /// A flush begins: what it flushes has ended by now.
     pub fn begin(&self, now: u64) -> Begun {
-        let flushed = self.flushed.load(Ordering::Relaxed);
         let ended = self.ended.load(Ordering::Relaxed);
         raise(&self.begun, ended);
-        if self.running.fetch_add(1, Ordering::Relaxed) > 0 {
-            return Begun {
-                ended,
-                flushed,
-                alone: None,
-            };
+        let before = self.last.swap(now, Ordering::Relaxed);
+        let is_alone = self.running.fetch_add(1, Ordering::Relaxed) == 0;
+        if is_alone {
+            self.shown.store(self.flushed(), Ordering::Relaxed);
+            self.since.store(now.max(1), Ordering::Relaxed);
         }
-        self.since.store(now.max(1), Ordering::Relaxed);
-        let writers = self.writers.swap(0, Ordering::Relaxed);
-        self.writers_before.store(writers, Ordering::Relaxed);
-        self.round.fetch_add(1, Ordering::Relaxed);
+        self.go_round(ended, is_alone);
         Begun {
             ended,
-            flushed,
-            alone: Some(now),
+            is_recent: before == 0 || now.saturating_sub(before) < RECENT,
         }
     }
 
-    /// That flush has ended, well or not.
-    pub fn end(&self, begun: Begun, now: u64, is_done: bool) {
-        self.running.fetch_sub(1, Ordering::Relaxed);
-        if let Some(since) = begun.alone {
-            self.since.store(0, Ordering::Relaxed);
-            let bytes = begun.ended.saturating_sub(begun.flushed);
-            if is_done && bytes >= SHOWS {
-                self.learn(bytes, now.saturating_sub(since));
-            }
+    // A flush begins when so much was written. Where hosts flush too, hardly one begins alone.
+    fn go_round(&self, ended: u64, is_alone: bool) {
+        let written = ended.saturating_sub(self.rounded.load(Ordering::Relaxed));
+        if is_alone || written >= self.bound() / TO_FLUSH {
+            self.rounded.store(ended, Ordering::Relaxed);
+            let writers = self.writers.swap(0, Ordering::Relaxed);
+            self.writers_before.store(writers, Ordering::Relaxed);
+            self.round.fetch_add(1, Ordering::Relaxed);
         }
-        if is_done {
+    }
+
+    /// That flush has ended.
+    pub fn end(&self, begun: Begun, now: u64, end: FlushEnd) {
+        self.last.store(now, Ordering::Relaxed);
+        let is_last = self.running.fetch_sub(1, Ordering::Relaxed) <= 1;
+        if end == FlushEnd::Made {
+            self.show_pace(begun, now, is_last);
+        }
+        if is_last {
+            self.since.store(0, Ordering::Relaxed);
+        }
+        if end != FlushEnd::Failed {
             raise(&self.flushed, begun.ended);
             self.settle();
         }
     }
 
-    // The disk flushed so many bytes in so many microseconds.
+    // The disk has made a flush: how fast it was since it was looked at last.
+    fn show_pace(&self, begun: Begun, now: u64, is_last: bool) {
+        let since = self.since.load(Ordering::Relaxed);
+        let bytes = begun
+            .ended
+            .saturating_sub(self.shown.load(Ordering::Relaxed));
+        let micros = now.saturating_sub(since);
+        if since == 0 || bytes < SHOWS || !is_last && micros < APART {
+            return;
+        }
+        if begun.is_recent {
+            self.learn(bytes, micros);
+        }
+        self.shown.store(begun.ended, Ordering::Relaxed);
+        self.since.store(now.max(1), Ordering::Relaxed);
+    }
+
+    // The disk flushed so many bytes in so many microseconds. That some of them were flushed before is never known for sure, so one look
+    // does not make it much faster.
     fn learn(&self, bytes: u64, micros: u64) {
-        let pace = bytes.saturating_mul(1000) / micros.max(1000);
-        let pace = pace.saturating_mul(1000);
         let before = self.pace.load(Ordering::Relaxed);
+        let pace = bytes.saturating_mul(1000) / micros.max(1000);
+        let pace = pace
+            .saturating_mul(1000)
+            .min(before.saturating_mul(FASTER))
+            .max(SLOWEST);
         self.pace.store(before / 2 + pace / 2, Ordering::Relaxed);
     }
 

@@ -8,7 +8,7 @@ ghost use Rattle.disk_files.specs.Told.{HasFlushed, were_told};
 
 use crate::FileBlocks;
 use crate::backing::BackingFile;
-use crate::backlog::Backlog;
+use crate::backlog::{Backlog, FlushEnd};
 use crate::file_log::FileLog;
 use crate::flushes::{FlushFault, Flushes, LastingFile};
 use crate::kernel_limits::{KERNEL_FILES, KernelLimits};
@@ -67,6 +67,10 @@ const A_WHILE: u64 = 5;
 
 const WHILES: u32 = 4096;
 
+/// Who waits for room while a flush runs for which somebody has waited in vain waits for such a part of that: what its session asks
+/// behind it, as whether its path is alive, waits with it.
+const SHORTER: u64 = 40;
+
 /// A wait of so many microseconds is counted.
 const WAITED: u64 = 500;
 
@@ -87,9 +91,10 @@ pub struct FilePreparer<R: Clock + Wait + Drop, F: LastingFile> {
     slow: AtomicU64,
     // The serial of the WRITE that came last, of whatever session.
     last: AtomicU64,
-    // What was written and is not flushed, and how much the kernel lets be.
+    // What was written and is not flushed, and how much the kernel lets be; and what was flushed when somebody waited in vain for more.
     backlog: Backlog,
     limits: KernelLimits,
+    in_vain: AtomicU64,
     ghost own: { IfSome file (λ f. f.node ≡ node) } by { Prim.hlevel props },
 }
 
@@ -105,6 +110,7 @@ impl<R: Clock + Wait + Drop, F: LastingFile + Drop> Drop for FilePreparer<R, F> 
             last: _,
             backlog: _,
             limits: _,
+            in_vain: _,
         } = self;
     }
 }
@@ -139,6 +145,7 @@ impl<R: Clock + Wait + Files<File = File> + Drop> FilePreparer<R, SystemFile> {
             last: AtomicU64::new(0),
             backlog,
             limits,
+            in_vain: AtomicU64::new(u64::MAX),
         }
     }
 }
@@ -252,6 +259,16 @@ impl<R: Clock + Wait + Drop, F: LastingFile> FilePreparer<R, F> {
         u64::try_from(self.rt.monotonic().ok()?.as_micros()).ok()
     }
 
+    // For how many microseconds of this time a session waits: for a part of them, where somebody has waited for this flush in vain.
+    fn patience_now(&self, patience: Duration) -> u64 {
+        let patience = u64::try_from(patience.as_micros()).unwrap_or(u64::MAX);
+        if self.in_vain.load(Ordering::Relaxed) == self.backlog.flushed() {
+            patience / SHORTER
+        } else {
+            patience
+        }
+    }
+
     // Waits for room for what a session writes, until this time at most, and not where nothing is flushed any more.
     fn await_room(&self, flushes: &Flushes<F>, is_heavy: bool, end: u64) {
         for _ in 0..WHILES {
@@ -260,7 +277,11 @@ impl<R: Clock + Wait + Drop, F: LastingFile> FilePreparer<R, F> {
             }
             match self.micros() {
                 Some(now) if now < end => thread::sleep(&self.rt, Duration::from_millis(A_WHILE)),
-                _ => return,
+                _ => {
+                    let flushed = self.backlog.flushed();
+                    self.in_vain.store(flushed, Ordering::Relaxed);
+                    return;
+                }
             }
         }
     }
@@ -271,13 +292,13 @@ impl<R: Clock + Wait + Drop, F: LastingFile> FilePreparer<R, F> {
             return;
         };
         let is_heavy = self.backlog.is_heavy(account);
+        let patience = self.patience_now(patience);
         if is_heavy {
-            let turn = Duration::from_micros(self.backlog.turn(bytes, account, begun));
-            if !turn.is_zero() {
-                thread::sleep(&self.rt, turn.min(patience));
+            let turn = self.backlog.turn(bytes, account, begun).min(patience);
+            if turn > 0 {
+                thread::sleep(&self.rt, Duration::from_micros(turn));
             }
         }
-        let patience = u64::try_from(patience.as_micros()).unwrap_or(u64::MAX);
         self.await_room(flushes, is_heavy, begun.saturating_add(patience));
         let waited = self.micros().unwrap_or(begun).saturating_sub(begun);
         if waited >= WAITED
@@ -521,10 +542,15 @@ impl<R: Clock + Wait + Files<File = File> + Drop, F: LastingFile> Preparer for F
             return false;
         };
         let failed_writes = self.failed_writes();
+        let made = flushes.made();
         let begun = self.backlog.begin(self.micros().unwrap_or(0));
         let end = flushes.flush(&self.rt, self.node);
-        self.backlog
-            .end(begun, self.micros().unwrap_or(0), end.is_ok());
+        let came_to = match &end {
+            Ok(()) if flushes.made() == made => FlushEnd::Needless,
+            Ok(()) => FlushEnd::Made,
+            Err(_) => FlushEnd::Failed,
+        };
+        self.backlog.end(begun, self.micros().unwrap_or(0), came_to);
         self.show();
         match end {
             Ok(()) => {

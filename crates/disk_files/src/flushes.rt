@@ -6,7 +6,7 @@ ghost use Rattle.disk_files.specs.Told.{has_told, were_told, HasFlushed};
 use crate::backing::{BackingFile, Counted};
 use disk_preparer::Node;
 use std::marker::{Model, PhantomData};
-use std::sync::atomic::{AtomicBool, AtomicIn, AtomicUsize, Ordering, Rule};
+use std::sync::atomic::{AtomicBool, AtomicIn, AtomicU64, AtomicUsize, Ordering, Rule};
 use std::sync::{Mutex, MutexGuard, Wait};
 
 /// A file of which threads may flush several handles at one time. What one of them has made last is not seen in the others, so
@@ -79,6 +79,8 @@ pub struct Flushes<F: BackingFile> {
     written: AtomicIn<Ended<F>>,
     settled: Mutex<Settled<F>>,
     is_lost: AtomicBool,
+    // How many flushes the system has made.
+    made: AtomicU64,
     turns: AtomicUsize,
     handles: Vec<Mutex<F>>,
 }
@@ -89,6 +91,7 @@ impl<F: BackingFile + Drop> Drop for Flushes<F> {
             written: _,
             settled: _,
             is_lost: _,
+            made: _,
             turns: _,
             handles: _,
         } = self;
@@ -114,6 +117,7 @@ impl<F: BackingFile> Flushes<F> {
                 of: PhantomData,
             }),
             is_lost: AtomicBool::new(false),
+            made: AtomicU64::new(0),
             turns: AtomicUsize::new(0),
             handles,
         }
@@ -146,6 +150,11 @@ impl<F: BackingFile> Flushes<F> {
     /// Whether a flush has failed.
     pub fn is_lost(&self) -> bool {
         self.is_lost.load(Ordering::Acquire)
+    }
+
+    /// How many flushes the system has made beside the device.
+    pub fn made(&self) -> u64 {
+        self.made.load(Ordering::Relaxed)
     }
 
     /// Whether a flush beside the device has made the first so many writes of this file last, as far as is seen without waiting.
@@ -201,6 +210,7 @@ impl<F: LastingFile> Flushes<F> {
             // One that ran beside it may have had its blocks in hand.
             Ok(()) if self.is_lost() => Err(FlushFault::Lost),
             Ok(()) => {
+                self.made.fetch_add(1, Ordering::Relaxed);
                 self.settled.lock(rt).put(node, writes);
                 Ok(())
             }

@@ -25,7 +25,7 @@ mod unit_file;
 mod writes;
 
 pub use backing::{BackingFile, Counted};
-pub use backlog::{Backlog, Begun};
+pub use backlog::{Backlog, Begun, FlushEnd};
 pub use blocks::{FileBlocks, blocks_in};
 pub use disk::{Disk, DiskLock, open_disk};
 pub use fault::{DiskFault, FileFault, RegistrationsFault};

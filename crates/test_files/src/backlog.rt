@@ -1,7 +1,7 @@
 //! What was written to a disk and is not flushed: what counts as flushed, who waits for that, and for how long.
 use crate::ends::{fail, must};
 use crate::runs::{clean, folder, path_of, sized};
-use disk_files::{Backlog, FileBlocks, FileLog, FilePreparer};
+use disk_files::{Backlog, FileBlocks, FileLog, FilePreparer, FlushEnd};
 use disk_preparer::{Account, Preparer};
 use event_log::{Log, Meters, Part, Unflushed};
 use std::alloc::Global;
@@ -17,8 +17,16 @@ const FREE: u64 = 256 << 20;
 /// A part of that which shows.
 const PART: u64 = 1 << 20;
 
+/// So much that the bound is what the disk flushes; and so many bytes a disk flushes in half a second.
+const MUCH: u64 = 1 << 40;
+
+const HALF: u64 = 25 << 20;
+
+/// In microseconds.
+const SECOND: u64 = 1_000_000;
+
 /// So many milliseconds a session waits at most, and no call of a test takes so many.
-const PATIENCE: u64 = 50;
+const PATIENCE: u64 = 400;
 
 const LONG: u64 = 5000;
 
@@ -36,7 +44,7 @@ fn a_flush_counts_what_had_ended_when_it_began(rt: HostRuntime) {
     let begun = backlog.begin(1);
     write(&backlog, &mut account, PART);
     let before = backlog.unflushed();
-    backlog.end(begun, 2, true);
+    backlog.end(begun, 2, FlushEnd::Made);
     let behind = backlog.unflushed();
     must(
         &rt,
@@ -51,7 +59,7 @@ fn a_flush_that_fails_counts_nothing(rt: HostRuntime) {
     let (backlog, mut account) = (Backlog::new(FREE), Account::new());
     write(&backlog, &mut account, PART);
     let begun = backlog.begin(1);
-    backlog.end(begun, 2, false);
+    backlog.end(begun, 2, FlushEnd::Failed);
     let unflushed = backlog.unflushed();
     must(&rt, unflushed == PART, "unflushed", &unflushed);
 }
@@ -72,6 +80,53 @@ fn who_writes_little_does_not_wait_for_who_writes_much(rt: HostRuntime) {
     );
 }
 
+// Writes, and flushes that so many microseconds later, within a millisecond; what may be unflushed before and behind it.
+fn bounds(later: u64, end: FlushEnd) -> (u64, u64) {
+    let (backlog, mut account) = (Backlog::new(MUCH), Account::new());
+    let begun = backlog.begin(SECOND);
+    backlog.end(begun, SECOND, end);
+    let before = backlog.bound();
+    write(&backlog, &mut account, 8 * PART);
+    let begun = backlog.begin(SECOND + later);
+    backlog.end(begun, SECOND + later + 1000, end);
+    backlog.bind(MUCH, 1);
+    (before, backlog.bound())
+}
+
+// Else a disk would count as faster than any, to which little is written: what it has then is unflushed for minutes.
+#[test]
+fn what_the_system_has_written_by_itself_shows_no_pace(rt: HostRuntime) {
+    let (before, behind) = bounds(13 * SECOND, FlushEnd::Made);
+    must(&rt, before == behind, "a flush late", &(before, behind));
+    let (before, behind) = bounds(SECOND, FlushEnd::Needless);
+    must(&rt, before == behind, "no flush", &(before, behind));
+    let (before, behind) = bounds(SECOND, FlushEnd::Made);
+    let is_faster = before < behind && behind < 3 * before;
+    must(&rt, is_faster, "a flush at once", &(before, behind));
+}
+
+// Each flush begins while the one before it runs, as where the array and a host flush. The disk takes twice a half each second.
+#[test]
+fn flushes_that_run_one_into_the_other_show_the_pace(rt: HostRuntime) {
+    let (backlog, mut much, mut little) = (Backlog::new(MUCH), Account::new(), Account::new());
+    let mut running = backlog.begin(SECOND);
+    let mut now = SECOND;
+    for _ in 0..64 {
+        write(&backlog, &mut much, HALF);
+        write(&backlog, &mut little, 65536);
+        let next = backlog.begin(now + SECOND / 4);
+        now += SECOND / 2;
+        backlog.end(running, now, FlushEnd::Made);
+        running = next;
+    }
+    backlog.bind(MUCH, 1);
+    let bound = backlog.bound();
+    let is_so = bound > 18 * HALF && bound < 22 * HALF;
+    must(&rt, is_so, "ten seconds of the disk", &bound);
+    let heavy = (backlog.is_heavy(&mut much), backlog.is_heavy(&mut little));
+    must(&rt, heavy == (true, false), "who writes much", &heavy);
+}
+
 // For how many milliseconds a session waits that writes so much next.
 fn waits<P: Preparer>(rt: &impl Clock, preparer: &P, account: &mut Account, bytes: u64) -> u64 {
     let begun = rt.monotonic().unwrap_or(Duration::ZERO);
@@ -80,11 +135,13 @@ fn waits<P: Preparer>(rt: &impl Clock, preparer: &P, account: &mut Account, byte
     u64::try_from(ended.saturating_sub(begun).as_millis()).unwrap_or(u64::MAX)
 }
 
-// It waits where more than the kernel ever lets be is not flushed, and not behind a flush.
+// It waits where more than the kernel ever lets be is not flushed, for less where it has waited in vain, and not behind a flush.
 fn waits_until_a_flush<P: Preparer>(rt: &(impl Clock + Abort), preparer: &P) {
     let mut account = Account::new();
     let first = waits(rt, preparer, &mut account, u64::MAX / 4);
     let full = waits(rt, preparer, &mut account, PART);
+    let again = waits(rt, preparer, &mut account, PART);
+    must(rt, again < PATIENCE, "behind one in vain", &again);
     must(rt, preparer.await_flush(1), "a flush is due", &());
     must(rt, preparer.flush(), "a flush", &());
     let behind = waits(rt, preparer, &mut account, PART);
@@ -112,8 +169,8 @@ fn counted<R: Wait + Abort>(rt: &R, alloc: Global, log: &Log) -> (Unflushed, Unf
     }
 }
 
-// One write waited, for its time; one flush of its own was due; and what was written behind it is all that is not flushed. Of the other
-// unit there is nothing.
+// Two writes waited, one of them for its time; one flush of its own was due; and what was written behind it is all that is not flushed.
+// Of the other unit there is nothing.
 fn are_counted<R: Wait + Abort>(rt: &R, alloc: Global, log: &Log) {
     let (other, own) = counted(rt, alloc, log);
     let nothing = (
@@ -130,7 +187,7 @@ fn are_counted<R: Wait + Abort>(rt: &R, alloc: Global, log: &Log) {
         &nothing,
     );
     let (waits, micros, flushes) = (own.waits, own.waited_micros, own.own_flushes);
-    let are_so = waits == 1 && micros >= 1000 * PATIENCE && micros < 1000 * LONG && flushes == 1;
+    let are_so = waits == 2 && micros >= 1000 * PATIENCE && micros < 1000 * LONG && flushes == 1;
     must(rt, are_so, "waits", &(waits, micros, flushes));
     let stands = own.bytes == PART && own.bound >= PART;
     must(rt, stands, "not flushed", &(own.bytes, own.bound));
