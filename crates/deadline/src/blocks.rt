@@ -222,7 +222,7 @@ fn done_by<R: Wait + Clock + Drop, B: FileDevice, O: Opener<B>>(
     is_done
 }
 
-// Has the thread of the device of this file flush it, so many of whose writes have ended, and tells the watch that a flush has come back.
+// Has the thread of the device of this file flush it, so many of whose writes have ended, and tells the watch of a flush that is done.
 fn flush_by<R: Wait + Clock + Drop, B: FileDevice, O: Opener<B>>(
     asker: &mut Asker<R, Errand<B, O>>,
     writes: &mut u64,
@@ -239,7 +239,7 @@ fn flush_by<R: Wait + Clock + Drop, B: FileDevice, O: Opener<B>>(
     let written = asker.watch().written();
     let is_flushed = done_by(asker, turn, errand, disk, Wanted::Flush(ended));
     if is_flushed {
-        asker.watch().flush_came_back(true, written);
+        asker.watch().has_flushed(written);
     }
     is_flushed
 }

@@ -305,13 +305,15 @@ impl<R: Wait + Clock + Drop, P: Preparer> PreparerRunner<R, P> {
         }
     }
 
-    // Flushes, and tells the watch that a flush has come back.
+    // Flushes, and tells the watch of a flush that is done.
     fn flush(&self) -> bool
         ensures { IsTrue result → P.has_flushed self.now.disk }
     {
         let written = self.watch.written();
         let is_flushed = self.preparer.flush();
-        self.watch.flush_came_back(is_flushed, written);
+        if is_flushed {
+            self.watch.has_flushed(written);
+        }
         is_flushed
     }
 

@@ -16,10 +16,15 @@ pub(crate) struct Spent {
     time: Duration,
     // When it was looked at last.
     seen: Duration,
-    // How many flushes had come back by then.
+    // How many flushes were done by then.
     flushes: u64,
     // For how long one sleeps.
     nap: Duration,
+}
+
+// Whether such a call flushes.
+fn flushes(call: Call) -> bool {
+    matches!(call, Call::Flush | Call::Open)
 }
 
 impl Spent {
@@ -38,12 +43,14 @@ impl Spent {
         self.nap
     }
 
-    /// Whether that is all that this call has.
+    /// Whether that is all that this call has. Where another flush was done meanwhile, it is not: see below.
     pub(crate) fn is_all(&self, watch: &Watch, call: Call) -> bool {
-        self.time >= watch.patience_for(call)
+        let patience = watch.patience_for(call);
+        let has_anew = flushes(call) && watch.flushes() != self.flushes;
+        self.time >= patience && !has_anew
     }
 
-    /// One has slept; the thread was at the call, or was not. Where another flush has come back meanwhile, one that flushes has its time anew: it
+    /// One has slept; the thread was at the call, or was not. Where another flush was done meanwhile, one that flushes has its time anew: it
     /// may have waited for that one. False: the clock cannot be read.
     pub(crate) fn go_on<R: Clock>(
         &mut self,
@@ -60,11 +67,11 @@ impl Spent {
         if is_at_it && nap <= self.nap.saturating_mul(2) {
             self.time = self.time.saturating_add(nap);
         }
-        let flushes = watch.flushes();
-        if matches!(call, Call::Flush | Call::Open) && flushes != self.flushes {
+        let done = watch.flushes();
+        if flushes(call) && done != self.flushes {
             self.time = Duration::ZERO;
         }
-        self.flushes = flushes;
+        self.flushes = done;
         true
     }
 }

@@ -8,11 +8,12 @@ use std::sync::atomic::{AtomicBool, AtomicU64, Ordering};
 use std::sync::{Mutex, Wait};
 use std::time::{Clock, Duration};
 
-/// For so many bytes that were written and not flushed a flush may take a millisecond more: 8 MiB a second ..
-const BYTES_A_MILLISECOND: u64 = 8389;
+/// For so many bytes that were written and not flushed a flush may take a millisecond more: 1 MiB a second, as a disk has that turns,
+/// where they lie here and there ..
+const BYTES_A_MILLISECOND: u64 = 1049;
 
 /// .. but for no more bytes than these.
-const MOST_BYTES: u64 = 1 << 30;
+const MOST_BYTES: u64 = 1 << 27;
 
 /// How many calls of a file hang, and since when.
 #[derive(Drop)]
@@ -32,7 +33,7 @@ pub struct Watch {
     has_slept: AtomicBool,
     // How many writes have come back.
     writes: AtomicU64,
-    // How many bytes the file was asked to write, how many of them a flush has made last, and how many flushes have come back.
+    // How many bytes the file was asked to write, how many of them a flush has made last, and how many flushes were done.
     written: AtomicU64,
     flushed: AtomicU64,
     flushes: AtomicU64,
@@ -132,15 +133,13 @@ impl Watch {
         self.written.load(Ordering::Acquire)
     }
 
-    /// A flush has come back; where it is done, it has made so many of these bytes last.
-    pub(crate) fn flush_came_back(&self, is_done: bool, written: u64) {
-        if is_done {
-            self.flushed.fetch_max(written, Ordering::AcqRel);
-        }
+    /// A flush is done, and has made so many of these bytes last. Who sees that there are fewer left sees that it has come back, too.
+    pub(crate) fn has_flushed(&self, written: u64) {
         self.flushes.fetch_add(1, Ordering::AcqRel);
+        self.flushed.fetch_max(written, Ordering::AcqRel);
     }
 
-    /// How many flushes have come back.
+    /// How many flushes were done.
     pub(crate) fn flushes(&self) -> u64 {
         self.flushes.load(Ordering::Acquire)
     }
