@@ -11,6 +11,7 @@ not there, their cases say so.
 
 import contextlib
 import errno
+import fcntl
 import http.server
 import json
 import math
@@ -18,12 +19,13 @@ import os
 import re
 import shutil
 import socket
+import struct
 import subprocess
 import threading
 import time
 
 from cases import Cases, Mounted, NotHere, end_of, flush, is_so, until, write
-from failing import Failing
+from failing import EVER, Failing
 from free_port import free_port
 from initiator import GOOD, RESERVATION_CONFLICT, Session
 from running import PORT, TARGET, TOP, Array, Wrong, ended, made, ran
@@ -377,6 +379,67 @@ def failure_that_is_acknowledged(folder):
         said_by(control, "acknowledge")
         wrong(1, "flushes_lost")
         array.quit()
+
+
+@case
+def reads_that_failed_at_two_places(folder):
+    """That the blocks of one of them are read does not make the other one well."""
+    failing = Failing(folder)
+    with Array([made(f"{folder}/disk", 4096)], more={"ARRAYD_HTTP": f"127.0.0.1:{AT}", **failing.environment}) as array:
+        session = host()
+        failing.let("pread", errno.EIO, times=EVER)
+        for lba in (9, 200):
+            is_so("a read", end_of(session.command(0, [0x28, 0, 0, 0, 0, lba, 0, 0, 1, 0], expected=512)), "03 11/00")
+        failing.stop()
+        session.read(0, 200, 1)
+        wrong(0, "calls_failed")
+        session.read(0, 9, 192)
+        over(0, "disk", "read", "EIO")
+        array.quit()
+
+
+class Hasty(Session):
+    """Its first command comes with the last request of its login."""
+
+    def send(self, header, data=b""):
+        if b"MaxRecvDataSegmentLength" not in data:
+            return super().send(header, data)
+        header = bytearray(header)
+        header[5:8] = len(data).to_bytes(3, "big")
+        ready = struct.pack(">BBxxI8sIIII16s", 0x01, 0x80, 0, bytes(8), 0x777, 0, self.cmd_sn, self.exp_stat_sn, bytes(16))
+        return self.socket.sendall(bytes(header) + data + bytes(-len(data) % 4) + ready)
+
+
+@case
+def command_that_came_with_the_login(folder):
+    """It takes no longer than any other, though nobody looked at the clock before."""
+    with window(folder) as array:
+        session = Hasty("127.0.0.1", PORT, TARGET)
+        is_so("its answer", session.receive()[0][16:20], bytes([0, 0, 7, 0x77]))
+        counted = lambda: value(metrics(), "arrayd_command_duration_seconds_count", unit=0, controller=1)
+        is_so("it is counted", until(lambda: counted() > 0), True)
+        is_so("its time", value(metrics(), "arrayd_command_duration_seconds_sum", unit=0, controller=1) < 5, True)
+        array.quit()
+
+
+@case
+def log_that_hangs(folder):
+    """Its writer waits in a pipe that nobody reads."""
+    log = f"{folder}/log"
+    os.mkfifo(log)
+    reader = os.open(log, os.O_RDONLY | os.O_NONBLOCK)
+    fcntl.fcntl(reader, fcntl.F_SETPIPE_SZ, 4096)
+    with window(folder, log=log) as array:
+        for _ in range(40):
+            Session("127.0.0.1", PORT, TARGET).close()
+        is_so("health", until(lambda: get("/health")[::2] == (503, b"The log cannot be written.\n"), 30), True)
+        while os.read(reader, 65536):
+            if get("/health")[0] == 200:
+                break
+            time.sleep(0.1)
+        is_so("well again", get("/health")[0], 200)
+        array.quit()
+    os.close(reader)
 
 
 def said_by(control, line):

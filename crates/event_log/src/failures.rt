@@ -32,9 +32,9 @@ pub(crate) struct Tally {
     last: AtomicU64,
     ended: AtomicU64,
     error: AtomicU64,
-    // The first block of the last one, and how many blocks it had.
+    // The first block of those that are not over, and the one behind them all.
     first: AtomicU64,
-    blocks: AtomicU64,
+    behind: AtomicU64,
 }
 
 impl Tally {
@@ -48,19 +48,24 @@ impl Tally {
             ended: AtomicU64::new(0),
             error: AtomicU64::new(0),
             first: AtomicU64::new(0),
-            blocks: AtomicU64::new(0),
+            behind: AtomicU64::new(0),
         }
     }
 
     /// A call failed at this time, at these blocks, with this error.
     pub(crate) fn fail(&self, now: u64, place: Place, error: u32) {
-        if !self.is_now() {
+        let first = u64::from(place.first);
+        let behind = first.saturating_add(u64::from(place.count));
+        if self.is_now() {
+            let _ = self.first.fetch_min(first, Ordering::Relaxed);
+            let _ = self.behind.fetch_max(behind, Ordering::Relaxed);
+        } else {
             self.began.store(now, Ordering::Relaxed);
+            self.first.store(first, Ordering::Relaxed);
+            self.behind.store(behind, Ordering::Relaxed);
         }
         self.last.store(now, Ordering::Relaxed);
         self.error.store(u64::from(error), Ordering::Relaxed);
-        self.first.store(u64::from(place.first), Ordering::Relaxed);
-        self.blocks.store(u64::from(place.count), Ordering::Relaxed);
         let _ = self.count.fetch_add(1, Ordering::Release);
     }
 
@@ -74,10 +79,10 @@ impl Tally {
         self.over.load(Ordering::Acquire) < self.count()
     }
 
-    /// Whether all blocks of the last one are among these.
+    /// Whether all blocks of those that are not over are among these.
     pub(crate) fn lies_in(&self, place: Place) -> bool {
         let first = self.first.load(Ordering::Relaxed);
-        let behind = first.saturating_add(self.blocks.load(Ordering::Relaxed));
+        let behind = self.behind.load(Ordering::Relaxed);
         let from = u64::from(place.first);
         from <= first && behind <= from.saturating_add(u64::from(place.count))
     }

@@ -165,6 +165,15 @@ impl OfUnit {
         }
     }
 
+    // A call that had hung has come back. Of a registration file that was a save that was told as failed, also where it went well.
+    fn saves_late(&self, now: u64, part: Part, call: Call) {
+        if let (Part::Registrations, Call::Write | Call::Flush) = (part, call)
+            && let Some(tally) = self.registrations.get(place_of_call(Call::Write))
+        {
+            tally.fail(now, NOWHERE, 0);
+        }
+    }
+
     fn seen(&self, alloc: Global) -> Result<UnitHappenings, AllocError> {
         Ok(UnitHappenings {
             disk: seen_of(alloc, &self.disk)?,
@@ -225,7 +234,13 @@ impl Ledger {
                     tally.fail(now, *place, *error);
                 }
             }
-            Event::Hung(unit, _, _) | Event::Back(unit, _, _, _) | Event::Grew(unit, _) => {
+            Event::Back(unit, part, call, _) => {
+                if let Some(of_unit) = self.units.get(usize::from(*unit)) {
+                    of_unit.happens(now, event);
+                    of_unit.saves_late(now, *part, *call);
+                }
+            }
+            Event::Hung(unit, _, _) | Event::Grew(unit, _) => {
                 if let Some(of_unit) = self.units.get(usize::from(*unit)) {
                     of_unit.happens(now, event);
                 }
@@ -263,7 +278,7 @@ impl Ledger {
         }
     }
 
-    /// These blocks were read: where all blocks of the last read that failed are among them, that is over.
+    /// These blocks were read: where all blocks of the reads that failed are among them, that is over.
     pub(crate) fn read(&self, now: u64, unit: u8, part: Part, place: Place) {
         if let Some(tally) = self.tally(unit, part, Call::Read)
             && tally.is_now()

@@ -24,6 +24,9 @@ pub const ROOM: usize = 256 * 1024;
 /// How many bytes of lines are kept that have no time yet.
 const UNTIMED: usize = 16 * 1024;
 
+/// The log cannot be written where a write of lines takes so many microseconds.
+const LATE: u64 = 10_000_000;
+
 /// How often a teller tries to reach the lines, at first without letting another thread run.
 const TRIES: u32 = 10000;
 
@@ -52,6 +55,8 @@ pub(crate) struct Shared {
     pub(crate) dropped: AtomicU64,
     /// 1: the last lines could not be written.
     pub(crate) failing: AtomicU64,
+    /// When the writer began to write those that it writes now, in microseconds of the clock that never goes back; 0: it writes none.
+    pub(crate) since: AtomicU64,
     /// 1: the writer is to end. 2: it has.
     pub(crate) end: AtomicU64,
     /// Wakes the writer.
@@ -171,6 +176,7 @@ impl Log {
             waiting: Mutex::new(Waiting::new(alloc)?),
             dropped: AtomicU64::new(0),
             failing: AtomicU64::new(0),
+            since: AtomicU64::new(0),
             end: AtomicU64::new(0),
             bell: Parker::new(),
         };
@@ -263,10 +269,21 @@ impl Log {
         self.shared.is_some() || self.meters.is_some()
     }
 
-    /// Whether the last lines could not be written.
+    // Whether the writer has written these lines for long by now, as when the disk of the file hangs.
+    fn is_late(&self, since: u64) -> bool {
+        match &self.meters {
+            Some(meters) => since != 0 && meters.now().saturating_sub(since) > LATE,
+            None => false,
+        }
+    }
+
+    /// Whether the last lines could not be written, or those before them are not, and how long they take is counted.
     pub fn is_failing(&self) -> bool {
         match &self.shared {
-            Some(shared) => shared.failing.load(Ordering::SeqCst) != 0,
+            Some(shared) => {
+                let since = shared.since.load(Ordering::SeqCst);
+                shared.failing.load(Ordering::SeqCst) != 0 || self.is_late(since)
+            }
             None => false,
         }
     }

@@ -177,7 +177,7 @@ fn add_at(sums: &mut [Counts], tag: u16, unit: usize, counts: &Counts) {
 }
 
 // The time of the clock that never goes back, in microseconds; 1, where it cannot be read.
-fn clock(rt: &impl Clock) -> u64 {
+pub(crate) fn clock(rt: &impl Clock) -> u64 {
     micros(rt.monotonic().unwrap_or(Duration::ZERO)).max(1)
 }
 
@@ -366,8 +366,8 @@ impl Meters {
         })
     }
 
-    // The time of the last look at the clock.
-    fn now(&self) -> u64 {
+    /// The time of the last look at the clock.
+    pub(crate) fn now(&self) -> u64 {
         self.ticks.load(Ordering::Relaxed)
     }
 
@@ -438,7 +438,8 @@ impl Meters {
             units,
             last: None,
             is_waiting: false,
-            came: 0,
+            // what comes next may have been received before
+            came: self.now(),
         })
     }
 

@@ -19,10 +19,13 @@ const STACK: usize = 64 * 1024;
 fn look_on<R: Wait + Clock>(rt: &R, meters: &Meters) {
     let step = Duration::from_secs(STEP).as_micros() as u64;
     let mut due = meters.tick(rt);
+    // The clock may be set meanwhile: what is kept lies as far apart as it was, and from the start.
+    let begun = rt.since_1970().unwrap_or(Duration::ZERO);
+    let origin = begun.saturating_sub(Duration::from_micros(due));
     for _ in rt.forever() {
         let now = meters.tick(rt);
         if now >= due {
-            meters.keep(rt, rt.since_1970().unwrap_or(Duration::ZERO));
+            meters.keep(rt, origin.saturating_add(Duration::from_micros(now)));
             due = now
                 .saturating_sub(now.saturating_sub(due) % step)
                 .saturating_add(step);

@@ -2,6 +2,7 @@
 
 use crate::event::Event;
 use crate::log::{Log, ROOM, Shared};
+use crate::meters::clock;
 use crate::spelling::spell;
 use crate::stamp::Stamp;
 use std::alloc::{AllocError, Global};
@@ -130,7 +131,9 @@ fn write_on<R: Wait + Clock, P: Page>(rt: &R, shared: &Shared, page: &P, writer:
         let is_last = shared.end.load(Ordering::SeqCst) != 0;
         let dropped = take(rt, shared, &mut writer.lines, is_last);
         if !writer.lines.is_empty() {
+            shared.since.store(clock(rt).max(1), Ordering::SeqCst);
             write_taken(shared, page, writer, dropped);
+            shared.since.store(0, Ordering::SeqCst);
         }
         if is_last {
             break;

@@ -19,6 +19,10 @@ enum Step {
     FailsToSave(u8, Call),
     /// A read of the blocks 8 to 11 of a disk fails.
     FailsToRead(u8),
+    /// A read of this block fails.
+    FailsToReadOne(u8, u32),
+    /// A call on a registration file that had hung has come back.
+    IsBack(u8, Call),
     /// So many blocks from one on are read.
     Reads(u8, u32, u32),
     /// A flush goes well that began when so many writes had failed.
@@ -30,7 +34,8 @@ enum Step {
 }
 
 use Step::{
-    Acknowledged, Fails, FailsToRead, FailsToSave, Flushes, Grows, Hangs, Opens, Reads, Saves,
+    Acknowledged, Fails, FailsToRead, FailsToReadOne, FailsToSave, Flushes, Grows, Hangs, IsBack,
+    Opens, Reads, Saves,
 };
 
 const NOWHERE: Place = Place { first: 0, count: 0 };
@@ -53,6 +58,13 @@ fn make(log: &Log, step: Step) {
         Fails(unit, call) => tell_failure(log, unit, Part::Disk, call, NOWHERE),
         FailsToSave(unit, call) => tell_failure(log, unit, Part::Registrations, call, NOWHERE),
         FailsToRead(unit) => tell_failure(log, unit, Part::Disk, Call::Read, THERE),
+        FailsToReadOne(unit, first) => {
+            let place = Place { first, count: 1 };
+            tell_failure(log, unit, Part::Disk, Call::Read, place);
+        }
+        IsBack(unit, call) => {
+            log.note(&Event::Back(unit, Part::Registrations, call, Duration::ZERO));
+        }
         Reads(unit, first, count) => log.read(unit, Part::Disk, Place { first, count }),
         Flushes(unit, count) => log.end(unit, Part::Disk, Call::Write, count),
         Opens(unit) => end_all(log, unit, Part::Disk, Call::Open),
@@ -130,7 +142,7 @@ fn seen_behind<R: Wait>(rt: &R, alloc: Global, steps: &[Step]) -> Result<String,
 
 #[test]
 fn what_failed_is_over_by_what_went_well(rt: HostRuntime) -> Result<(), Fail> {
-    let rows: [(&[Step], &str); 17] = [
+    let rows: [(&[Step], &str); 21] = [
         (&[], ""),
         // Of its own unit, and no growth.
         (&[Hangs(1)], "1 call hung 1 now;"),
@@ -163,6 +175,18 @@ fn what_failed_is_over_by_what_went_well(rt: HostRuntime) -> Result<(), Fail> {
         (&[FailsToRead(0), Reads(0, 9, 8)], "0 disk read 1 now;"),
         (&[FailsToRead(0), Reads(1, 8, 4)], "0 disk read 1 now;"),
         (&[FailsToRead(0), Reads(0, 0, 12)], "0 disk read 1 over;"),
+        // All that failed meanwhile.
+        (
+            &[FailsToRead(0), FailsToReadOne(0, 40), Reads(0, 40, 1)],
+            "0 disk read 2 now;",
+        ),
+        (
+            &[FailsToRead(0), FailsToReadOne(0, 40), Reads(0, 8, 33)],
+            "0 disk read 2 over;",
+        ),
+        // A save that came too late was told as failed, however it ended.
+        (&[IsBack(0, Call::Flush)], "0 file write 1 now;"),
+        (&[IsBack(0, Call::Read)], ""),
         (&[Fails(0, Call::Open), Saves(0)], "0 disk open 1 now;"),
         (&[Fails(0, Call::Open), Opens(0)], "0 disk open 1 over;"),
         (
