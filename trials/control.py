@@ -16,10 +16,10 @@ import stat
 import subprocess
 import time
 
-from cases import Cases, is_so, lines, until
+from cases import Cases, end_of, is_so, lines, until
 from failing import Failing
 from free_port import free_port
-from initiator import Session
+from initiator import GOOD, Session
 from running import PORT, TOP, Array, Wrong, begun, ended, library, made
 from window import HOSTILE, host
 
@@ -269,13 +269,17 @@ def controller_that_comes_up(folder):
         # the log is written by a thread of its own
         until(lambda: len(lines(log, "groups_set")) >= len(MOVED))
         is_so("what moved is told", [line.split("groups_set ", 1)[1] for line in lines(log, "groups_set")], MOVED)
-        array.ask("up 2")
+        is_so("up 2 again", asked(folder, "up 2"), ["up"])
+        first.command(1, [0] * 6)
+        is_so("a host's word", end_of(first.set_port_groups(1, [(1, 2), (2, 0)])), GOOD)
+        is_so("in standby", array.status(1, 3)["states"], ("2", "0"))
+        is_so("up 1", (asked(folder, "up 1"), array.status(1, 3)["states"]), (["up"], ("1", "0")))
         array.ask("down 1")
         os.remove(f"{folder}/disk0")
         is_so("a disk that is gone", asked(folder, "up 1"), ["not moved 0"])
         array.quit()
         is_so("the log", (len(lines(log, "not_moved")), len(lines(log, "groups_set")) >= 9), (1, True))
-        is_so("the orders", orders(log), ['"up 1"', '"up 1"', '"up 2"', '"up 1"', '"up 1"'])
+        is_so("the orders", orders(log), ['"up 1"', '"up 1"', '"up 2"', '"up 1"', '"up 2"', '"up 1"', '"up 1"'])
 
 
 @case
@@ -357,6 +361,41 @@ def input_that_is_a_terminal(folder):
         program.wait()
         os.close(ours)
         os.close(theirs)
+
+
+@case
+def line_that_is_cut(folder):
+    """A connection takes 65536 bytes, and obeys no line that ends there only since no more are taken."""
+    log = f"{folder}/log"
+    with array_in(folder, log=log) as array:
+        session = host()
+        with connected(folder) as peer:
+            line = f"end {session.tsih}".encode()
+            peer.sendall(b"x" * (65536 - 1 - len(line)) + b"\n" + line + b"00\n")
+            said = b""
+            # what it did not take is why the system then tells of a reset
+            with contextlib.suppress(ConnectionResetError):
+                while part := peer.recv(65536):
+                    said += part
+            is_so("the answers", said, b"?\n. 2\n")
+        is_so("it goes on", session.read(0, 0, 1), bytes(512))
+        array.quit()
+        is_so("the orders", orders(log), [])
+
+
+@case
+def moves_one_after_the_other(folder):
+    """`down 1` waits for a disk. `up 1` by another connection is obeyed behind it, and is what holds then."""
+    os.mkdir(f"{folder}/slow")
+    slow = {"LD_PRELOAD": library("bench/slow_disk.c", folder), "SLOW_DISK": f"{folder}/slow", "SLOW_FLUSH": "3000000"}
+    with Array([made(f"{folder}/slow/disk", 4096)], more={"ARRAYD_CONTROL": f"{folder}/control", **slow}) as array:
+        host().write(0, 0, bytes(512))
+        with connected(folder) as peer:
+            peer.sendall(b"down 1\n")
+            time.sleep(0.2)
+        is_so("up", told(folder, "up 1"), ["up", DONE])
+        is_so("what holds", array.status(0)["owner"], "1")
+        array.quit()
 
 
 @case

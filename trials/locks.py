@@ -14,6 +14,7 @@ TAKEN_BY = (
     ("portal::server::admit", "waiting logins"),
     ("portal::server::start", "waiting logins"),
     ("array_operations::administered", "sessions"),
+    ("array_administration::answers::Answers", "moves"),
     ("deadline::watch", "hangs"),
     ("deadline::blocks", "device's thread"),
     ("deadline::prepared", "preparer's thread"),
@@ -34,6 +35,7 @@ TAKEN_BY = (
 
 # What may be waited for while this is held. Who only tries, and goes on without, can keep nobody waiting in a ring, and is not looked at.
 WHILE_HELD = {
+    "moves": {"unit", "seat", "device's thread", "hangs"},
     "logins": {"unit", "sessions"},
     "unit": {"device's thread", "hangs"},
     "device's thread": {"hangs"},

@@ -7,7 +7,7 @@ use event_log::Event;
 use scsi_types::Group;
 use std::alloc::Global;
 use std::io::{self, Write};
-use std::sync::Wait;
+use std::sync::{Mutex, Wait};
 use std::thread;
 use std::time::{Clock, Duration};
 use window::{ArrayView, Collector, Registration, Seen, SessionView, UnitView, health, spelled};
@@ -130,16 +130,29 @@ fn say_unknown<W: Write>(writer: &mut W) -> io::Result<End> {
 
 /// What answers at the control socket of an array that is served.
 pub(crate) struct Answers<R: Wait + Clock + Drop, A: Administered + Drop> {
-    pub(crate) collector: ArrayCollector<R, A>,
+    collector: ArrayCollector<R, A>,
+    // Who has it moves units: an order that waits for a disk is obeyed before one that came later.
+    moves: Mutex<()>,
 }
 
 impl<R: Wait + Clock + Drop, A: Administered + Drop> Drop for Answers<R, A> {
     fn drop(self) {
-        let Self { collector: _ } = self;
+        let Self {
+            collector: _,
+            moves: _,
+        } = self;
     }
 }
 
 impl<R: Wait + Clock + Drop, A: Administered + Drop> Answers<R, A> {
+    /// By what this collects of the array.
+    pub(crate) fn of(collector: ArrayCollector<R, A>) -> Answers<R, A> {
+        Answers {
+            collector,
+            moves: Mutex::new(()),
+        }
+    }
+
     // What is seen of the array: its sessions, and what is wrong.
     fn view(&self, alloc: Global) -> io::Result<ArrayView> {
         Ok(self.collector.collect(alloc, Seen::Health)?)
@@ -262,15 +275,26 @@ impl<R: Wait + Clock + Drop, A: Administered + Drop> Answers<R, A> {
         }
     }
 
+    // Takes a controller down, when no other order moves units.
+    fn down(&self, controller: Group) -> Result<(), usize> {
+        let _order = self.moves.lock(&self.collector.rt);
+        self.collector.array.down(&self.collector.rt, controller)
+    }
+
+    // Brings one up likewise.
+    fn up(&self, controller: Group) -> Result<(), usize> {
+        let _order = self.moves.lock(&self.collector.rt);
+        self.collector.array.up(&self.collector.rt, controller)
+    }
+
     // Does what a line has the array do.
     fn act<W: Write>(&self, writer: &mut W, deed: Deed) -> io::Result<End> {
-        let (array, rt) = (&self.collector.array, &self.collector.rt);
         let (word, moved) = match deed {
             Deed::Acknowledge => return self.acknowledge(writer),
             Deed::End(tsih) => return self.end(writer, tsih),
             Deed::Quit => return self.quit(writer),
-            Deed::Down(controller) => ("down", array.down(rt, controller)),
-            Deed::Up(controller) => ("up", array.up(rt, controller)),
+            Deed::Down(controller) => ("down", self.down(controller)),
+            Deed::Up(controller) => ("up", self.up(controller)),
         };
         say_moved(writer, word, moved)?;
         Ok(End::of(moved.is_ok()))

@@ -7,6 +7,7 @@ use scsi_types::Group;
 use status::Row;
 use std::alloc::{AllocError, Global};
 use std::net::SocketAddrV4;
+use std::sync::atomic::{AtomicU64, Ordering};
 use std::sync::{Arc, Wait};
 use std::time::{Clock, Duration};
 use window::{
@@ -21,8 +22,8 @@ struct Fixed {
     target: String,
     array: u64,
     disks: Vec<String>,
-    // When the clock that never goes back began, in microseconds after the beginning of 1970.
-    origin: u64,
+    // When the clock that never goes back began, in microseconds after the beginning of 1970, as the other clock was set last.
+    origin: AtomicU64,
 }
 
 /// What collects the state of the array while it is served.
@@ -63,7 +64,7 @@ fn fixed_by(
         target: window::named(alloc, options.target.as_bytes())?,
         array: u64::from(options.array),
         disks,
-        origin,
+        origin: AtomicU64::new(origin),
     })
 }
 
@@ -140,7 +141,7 @@ fn unit_of(
         blocks: happened.blocks,
         health: window::health_words(&signs),
         troubles: window::trouble_tallies(alloc, &signs)?,
-        failures: window::failure_views(alloc, fixed.origin, happened)?,
+        failures: window::failure_views(alloc, fixed.origin.load(Ordering::Relaxed), happened)?,
         disk_failures: window::failures(alloc, &happened.disk)?,
         registration_failures: window::failures(alloc, &happened.registrations)?,
         hung: happened.hung.count,
@@ -305,6 +306,10 @@ impl<R: Wait + Clock + Drop, A: Administered + Drop> Collector for ArrayCollecto
 
     fn collect(&self, alloc: Global, shown: Shown) -> Result<ArrayView, AllocError> {
         let now = self.rt.monotonic().unwrap_or(self.began);
+        if let Ok(time) = self.rt.since_1970() {
+            let origin = micros(time.saturating_sub(now));
+            self.fixed.origin.store(origin, Ordering::Relaxed);
+        }
         let seen = self.seen(alloc, now)?;
         let array: &A = &self.array;
         let units = units_of(&self.rt, alloc, array, &self.fixed, &seen, shown)?;

@@ -59,8 +59,14 @@ impl<R: Wait + Clock + Drop, A: Administered + Drop> ControlSocket<R, A> {
         stream.set_read_timeout(patience)?;
         stream.set_write_timeout(patience)?;
         let mut writer = stream;
+        let mut read = 0u64;
         for line in BufReader::new(alloc, stream.take(MOST))?.split(alloc, b'\n') {
             let line = line?;
+            // A line that was cut is none.
+            read = read.saturating_add(line.len() as u64).saturating_add(1);
+            if read > MOST {
+                break;
+            }
             let mut answer = Vec::new(alloc);
             let answered = self.answers.answer(alloc, &mut answer, &line);
             let sent = writer.write_all(&answer);
@@ -184,7 +190,7 @@ pub(crate) fn answer<
     listener: UnixListener,
 ) -> io::Result<()> {
     let control = ControlSocket {
-        answers: Answers { collector },
+        answers: Answers::of(collector),
         listener,
     };
     let control = Arc::new(alloc, control)?;

@@ -17,7 +17,9 @@ use unit_history::Opened;
 use unit_sequence::Namings;
 use unit_state::MoveFault;
 
-/// The code of the access state unavailable (SPC-4, 5.15.2.2).
+/// The codes of the access states standby and unavailable (SPC-4, 5.15.2.2).
+const STANDBY: u64 = 2;
+
 const UNAVAILABLE: u64 = 3;
 
 /// Both controllers, as the console sees them.
@@ -43,7 +45,7 @@ fn stayed(why: MoveFault) -> Stayed {
     }
 }
 
-// Whether a controller that comes up concerns a unit: it cannot be reached by it, or prefers it and has another owner. Of no other
+// Whether a controller that comes up concerns a unit: it is not served by it, or prefers it and has another owner. Of no other
 // does it move, so nothing of the other controller comes back.
 fn concerns(controller: Group, place: usize, row: Row) -> bool {
     let state = match controller {
@@ -51,7 +53,7 @@ fn concerns(controller: Group, place: usize, row: Row) -> bool {
         Group::Two => row.states.1,
     };
     let is_owner = row.owner == u64::from(controller.number());
-    state == UNAVAILABLE || (preferred(place) == controller && !is_owner)
+    state == STANDBY || state == UNAVAILABLE || (preferred(place) == controller && !is_owner)
 }
 
 // What the parameter list of a move makes of both groups: the one whose state is active/optimized, and the states of the first and

@@ -17,7 +17,7 @@ const HELP: &str =
 
 environment:
   ARRAYD_LOG=FILE       a line for each thing that happens is written there
-  ARRAYD_DEADLINE=N     a call on a unit's file that takes N seconds has failed, and so has each later one
+  ARRAYD_DEADLINE=N     a call on a unit's file that takes N seconds has failed, and so has each later one until it is back
   ARRAYD_HOST2=IPV4     controller 2 listens there
   ARRAYD_HTTP=IPV4:PORT a browser sees there how the array is, and a program /metrics, /status and /health
   ARRAYD_CONTROL=PATH   a UNIX socket there takes the lines status, sessions, keys U, end TSIH, up 1, up 2 and others

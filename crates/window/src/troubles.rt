@@ -25,6 +25,8 @@ const DISK: &str = "disk";
 
 const REGISTRATIONS: &str = "registrations";
 
+const OPEN: &str = "open";
+
 const FLUSH: &str = "flush";
 
 const HUNG: &str = "hung";
@@ -116,10 +118,16 @@ impl Trouble {
 
 // What is to be told of calls on a disk that failed.
 fn failed_sentence(culprit: Option<&FailureView>) -> &'static str {
-    let errno = culprit.map_or(0, |failure| failure.errno);
+    let (call, errno) = match culprit {
+        Some(failure) => (failure.call, failure.errno),
+        None => ("", 0),
+    };
     match errno {
         NO_ROOM | NO_QUOTA => "The file system is full: make room.",
         0 => "The disk became shorter than at the start, or its name is another's.",
+        _ if call == OPEN => {
+            "Its disk was not opened for the other controller: its name is gone or is another file's, or the open itself failed."
+        }
         _ => {
             "The disk failed. The system's log (`dmesg`) says why. Of a write that failed each block is old or new."
         }
