@@ -63,7 +63,7 @@ fn make(log: &Log, step: Step) {
             tell_failure(log, unit, Part::Disk, Call::Read, place);
         }
         IsBack(unit, call) => {
-            log.note(&Event::Back(unit, Part::Registrations, call, Duration::ZERO));
+            log.note(&Event::Back(unit, Part::Registrations, call, 0));
         }
         Reads(unit, first, count) => log.read(unit, Part::Disk, Place { first, count }),
         Flushes(unit, count) => log.end(unit, Part::Disk, Call::Write, count),

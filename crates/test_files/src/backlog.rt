@@ -87,8 +87,9 @@ fn bounds(later: u64, end: FlushEnd) -> (u64, u64) {
     backlog.end(begun, SECOND, end);
     let before = backlog.bound();
     write(&backlog, &mut account, 8 * PART);
-    let begun = backlog.begin(SECOND + later);
-    backlog.end(begun, SECOND + later + 1000, end);
+    let then = later.saturating_add(SECOND);
+    let begun = backlog.begin(then);
+    backlog.end(begun, then.saturating_add(1000), end);
     backlog.bind(MUCH, 1);
     (before, backlog.bound())
 }
@@ -101,7 +102,7 @@ fn what_the_system_has_written_by_itself_shows_no_pace(rt: HostRuntime) {
     let (before, behind) = bounds(SECOND, FlushEnd::Needless);
     must(&rt, before == behind, "no flush", &(before, behind));
     let (before, behind) = bounds(SECOND, FlushEnd::Made);
-    let is_faster = before < behind && behind < 3 * before;
+    let is_faster = before < behind && behind < before.saturating_mul(3);
     must(&rt, is_faster, "a flush at once", &(before, behind));
 }
 
@@ -114,8 +115,8 @@ fn flushes_that_run_one_into_the_other_show_the_pace(rt: HostRuntime) {
     for _ in 0..64 {
         write(&backlog, &mut much, HALF);
         write(&backlog, &mut little, 65536);
-        let next = backlog.begin(now + SECOND / 4);
-        now += SECOND / 2;
+        let next = backlog.begin(now.saturating_add(SECOND / 4));
+        now = now.saturating_add(SECOND / 2);
         backlog.end(running, now, FlushEnd::Made);
         running = next;
     }
