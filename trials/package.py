@@ -152,9 +152,13 @@ def confined(machine):
     machine.run("systemctl reset-failed arrayd-watch@one; ln -s /dev/vdd /var/lib/arrayd/one/planted; "
                 "sed -i.kept 's#^DISKS=.*#DISKS=\"unit0=/dev/vdb planted\"#' /etc/arrayd/one.conf")
     check("a link that was planted is refused", machine.run("systemctl restart arrayd@one")[0] != 0
-          and "planted is the block device" in machine.run("journalctl --no-pager -u arrayd-prepare@one")[1])
+          and "planted is a block device" in machine.run("journalctl --no-pager -u arrayd-prepare@one")[1])
     machine.run("mv /etc/arrayd/one.conf.kept /etc/arrayd/one.conf; rm /var/lib/arrayd/one/planted")
-    check("and without it the array is there", machine.run("systemctl restart arrayd@one")[0] == 0)
+    machine.run("systemctl restart arrayd@one")
+    look = f"runuser -u watcher -- {STATUS} health"
+    check("and without it the array is there, as who may look is told", machine.run(look)[0] == 0, machine.run(look)[1])
+    machine.run("systemctl restart arrayd@one")
+    check("who looked just before a restart is answered behind it", machine.run(look)[0] == 0, machine.run(look)[1])
 
 
 def upgrade(machine):
