@@ -11,15 +11,16 @@ use disk_files::{
     open_disk, open_registrations,
 };
 use disk_preparer::{OnDisk, Preparer};
-use event_log::{Event, Log, Part, Unusable};
+use event_log::Log;
+use events::{Event, Part, Unusable};
 use scsi_types::Place;
+use unit_history::NewUnit;
+use unit_state::{Unit, laws};
 use std::alloc::Global;
 use std::fs::File;
 use std::rt::Files;
 use std::sync::Wait;
 use std::time::Clock;
-use unit_history::NewUnit;
-use unit_state::{Unit, laws};
 
 /// A unit over a file, with the registration file beside it.
 type FileUnit<R> = Unit<FileBlocks<SystemFile>, NamedBlocks<R>, FileOpener<R>>;

@@ -1,7 +1,8 @@
 //! The portals of both controllers.
 
 use command_line::Fault;
-use event_log::{Event, Log};
+use event_log::Log;
+use events::Event;
 use scsi_types::Group;
 use std::alloc::{AllocError, Global};
 use std::net::{Ipv4Addr, Net, SocketAddrV4, TcpListener, TcpStream};

@@ -16,12 +16,15 @@ use array_units::Units;
 use block_file::{Blocks, Opener};
 use command_line::{Fault, MAX_UNITS, Options};
 use disk_preparer::{OnDisk, Preparer};
-use event_log::{Event, Log, Resource};
+use event_log::Log;
+use events::{Event, Resource};
 use portal::{
     Controllers, Disks, Gate, Lane, Logins, Prepared, Server, SmallStacks, TargetDevice, listen,
     start_flushers, start_lanes,
 };
 use scsi_types::Group;
+use unit_history::{NewUnit, Opened};
+use unit_sequence::Namings;
 use std::alloc::Global;
 use std::fs::File;
 use std::io::{BufRead, Write};
@@ -33,8 +36,6 @@ use std::rt::Files;
 use std::sync::{Arc, Mutex, Wait};
 use std::thread::Threads;
 use std::time::Clock;
-use unit_history::{NewUnit, Opened};
-use unit_sequence::Namings;
 
 // By what hosts find the array: the target's name, and where each controller's portals listen; and the log that is told.
 #[derive(Drop)]

@@ -14,9 +14,11 @@ use disk_files::{
     DiskLock, FileBlocks, FileDevice, FileOpener, FilePreparer, NamedBlocks, SystemFile,
 };
 use disk_preparer::{Node, Preparer};
-use event_log::{Log, Part, Unusable};
+use event_log::Log;
+use events::{Part, Unusable};
 use reservations::Record;
 use scsi_types::Place;
+use unit_state::{Unit, laws};
 use std::alloc::Global;
 use std::fs::File;
 use std::io::{BufRead, Write};
@@ -26,7 +28,6 @@ use std::rt::Files;
 use std::sync::{Arc, Wait};
 use std::thread::Threads;
 use std::time::{Clock, Duration};
-use unit_state::{Unit, laws};
 
 /// What a unit will be over: its disk with what opens it anew and its preparer, its registration file, and the locks of both.
 #[derive(Drop)]

@@ -3,12 +3,12 @@
 use event_log::Log;
 use scsi_types::Group;
 use status::Row;
+use window::Registration;
 use std::alloc::Global;
 use std::io::{self, Write};
 use std::net::SocketAddrV4;
 use std::sync::Wait;
 use std::time::Clock;
-use window::Registration;
 
 /// What is asked of an array that is served: by this trait who asks has one type for all that it is made of.
 pub trait Administered {

@@ -3,14 +3,14 @@
 use crate::administered::Administered;
 use crate::collector::ArrayCollector;
 use crate::lines::{say_moved, text_of};
-use event_log::Event;
+use events::Event;
 use scsi_types::Group;
+use window::{ArrayView, Collector, Registration, Seen, SessionView, UnitView, health, spelled};
 use std::alloc::Global;
 use std::io::{self, Write};
 use std::sync::{Mutex, Wait};
 use std::thread;
 use std::time::{Clock, Duration};
-use window::{ArrayView, Collector, Registration, Seen, SessionView, UnitView, health, spelled};
 
 /// So many milliseconds lie between two looks whether a session is over that was ended, and so often is looked.
 const LOOK: u64 = 5;

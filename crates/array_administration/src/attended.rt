@@ -1,9 +1,10 @@
 //! Standard input, which ends where an administrator has ended the array by the control socket.
 
-use event_log::{Log, Meters};
+use event_log::Log;
 use libc::STDIN_FILENO;
 use libc::net::{POLLIN, poll};
 use libc::types::pollfd;
+use meters::Meters;
 use std::io::{self, BufRead, Read};
 
 /// For so many milliseconds is waited for a byte, before it is looked whether the array was ended.

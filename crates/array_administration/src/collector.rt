@@ -2,18 +2,19 @@
 
 use crate::administered::Administered;
 use command_line::Options;
-use event_log::{BOUNDS, Point, Seen, SessionType, UnitHappenings};
+use events::SessionType;
+use meters::{BOUNDS, Point, Seen, UnitHappenings};
 use scsi_types::Group;
 use status::Row;
-use std::alloc::{AllocError, Global};
-use std::net::SocketAddrV4;
-use std::sync::atomic::{AtomicU64, Ordering};
-use std::sync::{Arc, Wait};
-use std::time::{Clock, Duration};
 use window::{
     ArrayView, Collector, Controller, PathView, Registration, Seen as Shown, SessionView, Signs,
     UnitView,
 };
+use std::alloc::{AllocError, Global};
+use std::net::SocketAddrV4;
+use std::sync::{Arc, Wait};
+use std::sync::atomic::{AtomicU64, Ordering};
+use std::time::{Clock, Duration};
 
 /// What does not change while the array is served, as it is shown.
 #[derive(Drop)]

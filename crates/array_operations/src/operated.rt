@@ -6,16 +6,17 @@ use array_administration::Operations;
 use array_units::Units;
 use block_file::{Blocks, Opener};
 use command_line::MAX_UNITS;
-use event_log::{Access, By, Event, Log, Stayed};
+use event_log::Log;
+use events::{Access, By, Event, Stayed};
 use failover::{GroupsList, Mover, Moves, NotMoved, bring_up, preferred, take_down};
 use portal::Controllers;
 use scsi_types::Group;
 use status::Row;
-use std::sync::Wait;
-use std::time::Clock;
 use unit_history::Opened;
 use unit_sequence::Namings;
 use unit_state::MoveFault;
+use std::sync::Wait;
+use std::time::Clock;
 
 /// The codes of the access states standby and unavailable (SPC-4, 5.15.2.2).
 const STANDBY: u64 = 2;

@@ -1,7 +1,8 @@
 //! The file of the log, where one is asked for.
 
 use command_line::Fault;
-use event_log::{Event, Page, Stamp, put_line};
+use event_log::Page;
+use events::{Event, Stamp, put_line};
 use std::alloc::Global;
 use std::env::{self, Env, VarError};
 use std::fs::{File, OpenFile};

@@ -15,16 +15,17 @@ mod told;
 use administration::Asked;
 use array::{Attended, open, open_files, serve, serve_timed, tell_want};
 use command_line::{Fault, MAX_UNITS, Options};
-use event_log::{Event, Log, start};
+use event_log::{Log, start};
+use events::Event;
 use log_file::LogFile;
 use settings::Settings;
 use std::alloc::Global;
+use std::{env, io};
 use std::env::Env;
 use std::fs::File;
 use std::process::ExitCode;
 use std::rt::Files;
 use std::time::Clock;
-use std::{env, io};
 
 // The program's words, its own name first.
 fn all_words(rt: &(impl Env + AllocGlobal)) -> Result<Vec<String>, Fault> {

@@ -5,13 +5,13 @@ ghost use Rattle.std.specs.Arc.{arc_value};
 use crate::handing::{Asked, AskingEnd, ends};
 use crate::hatch::{Looks, Runner};
 use crate::watch::Watch;
-use event_log::Call;
+use events::Call;
 use std::alloc::Global;
-use std::sync::atomic::Ordering;
+use std::{io, mem};
 use std::sync::{Arc, Wait};
+use std::sync::atomic::Ordering;
 use std::thread::{Builder, JoinHandle, Threads};
 use std::time::Clock;
-use std::{io, mem};
 
 /// What the stack of the thread takes.
 const STACK: usize = 256 * 1024;

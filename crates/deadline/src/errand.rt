@@ -8,7 +8,7 @@ use crate::hatch::Runner;
 use block_file::{BLOCK_LENGTH, Blocks, Opener};
 use disk_files::FileDevice;
 use disk_preparer::Node;
-use event_log::Call;
+use events::Call;
 use std::alloc::{AllocError, Global};
 use std::marker::{Model, PhantomData};
 

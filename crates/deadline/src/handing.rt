@@ -5,11 +5,11 @@ ghost use Rattle.std.specs.Arc.{arc_value};
 ghost use Rattle.deadline.specs.Handing.{Kept, alone, asker, thread, is_asked_at, is_back_at, Takes, TakesBack, HandsOver, Gives, IsOut};
 
 use atomic_table::{Play, Refused, Seat, Split, Table, TableRule};
-use event_log::Call;
+use events::Call;
 use std::alloc::{AllocError, Global};
 use std::collections::LinkedList;
-use std::sync::atomic::{AtomicBool, AtomicU64};
 use std::sync::{Arc, Wait};
+use std::sync::atomic::{AtomicBool, AtomicU64};
 use std::time::Duration;
 
 /// Whose turn it is: the errand is asked, and who asked looks for the answer.

@@ -6,7 +6,7 @@ use crate::handing::{
 };
 use crate::spent::Spent;
 use crate::watch::Watch;
-use event_log::Call;
+use events::Call;
 use std::hint::spin_loop;
 use std::sync::Wait;
 use std::sync::atomic::Ordering;

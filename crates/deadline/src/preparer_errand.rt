@@ -9,7 +9,7 @@ use crate::hatch::{Runner, left};
 use crate::watch::Watch;
 use block_file::BLOCK_LENGTH;
 use disk_preparer::{Beside, BlockMemory, Node, Preparer};
-use event_log::Call;
+use events::Call;
 use std::alloc::{AllocError, Global};
 use std::marker::{Model, PhantomData};
 use std::sync::{Arc, Wait};

@@ -1,7 +1,7 @@
 //! How much of its time a call has taken.
 
 use crate::watch::Watch;
-use event_log::Call;
+use events::Call;
 use std::time::{Clock, Duration};
 
 /// Who waits for a call sleeps for such a part of the deadline at a time, and for no longer than so many milliseconds.

@@ -3,9 +3,10 @@ ghost use Rattle.std.specs.Prelude.{◌≡◌};
 ghost use Rattle.deadline.specs.Back.{had_come_back};
 
 use disk_preparer::Node;
-use event_log::{Call, Event, Log, Part};
-use std::sync::atomic::{AtomicBool, AtomicU64, Ordering};
+use event_log::Log;
+use events::{Call, Event, Part};
 use std::sync::{Mutex, Wait};
+use std::sync::atomic::{AtomicBool, AtomicU64, Ordering};
 use std::time::{Clock, Duration};
 
 /// For so many bytes that were written and not flushed a flush may take a millisecond more: 1 MiB a second, as a disk has that turns,

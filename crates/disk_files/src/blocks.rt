@@ -26,7 +26,7 @@ use crate::tally::Tally;
 use crate::writes::Writes;
 use block_file::{BLOCK_LENGTH, Blocks, DeviceFailed};
 use disk_preparer::{BlockMemory, Node, OnDisk};
-use event_log::Call;
+use events::Call;
 use std::alloc::Global;
 use std::fs::File;
 use std::rt::Files;

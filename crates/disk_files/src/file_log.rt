@@ -1,6 +1,8 @@
 //! What tells the log of a file of a unit: of its calls that failed, of what goes well behind these, and once that it became longer.
 
-use event_log::{Call, Event, Log, Part, Place, UnflushedTally};
+use event_log::Log;
+use events::{Call, Event, Part, Place};
+use meters::UnflushedTally;
 use std::sync::atomic::{AtomicBool, Ordering};
 
 /// Tells the log of calls that failed on a file of a unit, of what goes well behind these, and once that the file became longer.

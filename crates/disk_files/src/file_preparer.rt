@@ -15,15 +15,16 @@ use crate::kernel_limits::{KERNEL_FILES, KernelLimits};
 use crate::system::SystemFile;
 use block_file::BLOCK_LENGTH;
 use disk_preparer::{Account, Beside, BlockMemory, Node, PAGE_BLOCKS, Preparer};
-use event_log::{Call, UnflushedTally};
+use events::Call;
 use libc::{POSIX_FADV_WILLNEED, posix_fadvise};
+use meters::UnflushedTally;
 use std::alloc::Global;
 use std::fs::File;
 use std::os::fd::AsRawFd;
 use std::os::unix::fs::FileExt;
 use std::rt::Files;
-use std::sync::atomic::{AtomicU64, Ordering};
 use std::sync::{Arc, Mutex, Wait};
+use std::sync::atomic::{AtomicU64, Ordering};
 use std::thread;
 use std::time::{Clock, Duration};
 

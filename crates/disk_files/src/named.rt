@@ -13,7 +13,7 @@ use crate::file_device::FileDevice;
 use crate::system::{SystemFile, number_of};
 use block_file::{Blocks, DeviceFailed};
 use disk_preparer::{Node, OnDisk};
-use event_log::Call;
+use events::Call;
 use std::alloc::{AllocError, Global};
 use std::fs;
 use std::fs::File;

@@ -9,7 +9,7 @@ ghost use Rattle.disk_files.specs.Tally.{IsOpenedAnew};
 use crate::FileBlocks;
 use crate::system::{SystemFile, number_of};
 use block_file::{DeviceFailed, Opener};
-use event_log::Call;
+use events::Call;
 use std::alloc::{AllocError, Global};
 use std::fs::{File, OpenFile};
 use std::rt::Files;

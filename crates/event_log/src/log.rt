@@ -1,19 +1,15 @@
 //! What tellers and the writer of a log share.
 ghost use Rattle.std.specs.Prelude.{◌≡◌, ◌++◌, codes, if◌then◌else◌};
 ghost use Rattle.std.specs.String.{string_bytes};
-ghost use Rattle.event_log.specs.Text.{text_of};
+ghost use Rattle.events.specs.Text.{text_of};
 
-use crate::event::{Event, Place};
-use crate::meters::Meters;
-use crate::spelling::spell;
-use crate::stamp::Stamp;
 use crate::strangers::Strangers;
-use crate::unflushed::UnflushedTally;
-use crate::words::{Call, Part, SessionType};
+use events::{Call, Event, Part, Place, SessionType, Stamp, spell};
+use meters::{Meters, UnflushedTally};
 use std::alloc::{AllocError, Global};
 use std::hint::spin_loop;
-use std::sync::atomic::{AtomicU64, Ordering};
 use std::sync::{Arc, Mutex, MutexGuard};
+use std::sync::atomic::{AtomicU64, Ordering};
 use std::thread;
 use std::thread::Parker;
 use std::time::{Clock, Duration};

@@ -1,13 +1,12 @@
 //! A thread that looks at the clock, so that who counts need not, and keeps now and then what is counted.
 
 use crate::log::Log;
-use crate::meters::Meters;
-use crate::recent::STEP;
+use meters::{Meters, STEP};
 use std::alloc::Global;
+use std::{io, thread};
 use std::sync::{Arc, Wait};
 use std::thread::{Builder, JoinHandle, Threads};
 use std::time::{Clock, Duration};
-use std::{io, thread};
 
 /// So many milliseconds lie between two looks.
 const BETWEEN: u64 = 100;

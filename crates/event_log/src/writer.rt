@@ -1,18 +1,16 @@
 //! The thread that writes the lines of a log to its file.
 
-use crate::event::Event;
 use crate::log::{Log, ROOM, Shared};
-use crate::meters::clock;
-use crate::spelling::spell;
-use crate::stamp::Stamp;
+use events::{Event, Stamp, spell};
+use meters::clock;
 use std::alloc::{AllocError, Global};
 use std::fs::File;
 use std::io::{self, Write};
-use std::sync::atomic::Ordering;
+use std::{mem, thread};
 use std::sync::{Arc, Wait};
+use std::sync::atomic::Ordering;
 use std::thread::{Builder, JoinHandle, Threads};
 use std::time::{Clock, Duration};
-use std::{mem, thread};
 
 /// What the writer's stack takes.
 const STACK: usize = 256 * 1024;
@@ -67,13 +65,6 @@ fn lines_in(text: &str) -> u64 {
         count = count.saturating_add(1);
     }
     count
-}
-
-/// Puts the line of an event behind what there is, with the time at which it happened, and its end.
-pub fn put_line(lines: &mut String, when: Stamp, event: &Event<'_>) -> Result<(), AllocError> {
-    write!(lines, "{when} ")?;
-    spell(lines, event)?;
-    lines.push('\n')
 }
 
 // Puts the line that tells of so many others, where there are any.

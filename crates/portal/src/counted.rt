@@ -1,7 +1,7 @@
 //! What of commands is counted.
 
 use crate::told::operation_of;
-use event_log::{Ended, Served};
+use meters::{Ended, Served};
 use scsi_types::{Asked, Command, Reply, Status};
 use session::TargetAnswer;
 

@@ -8,7 +8,8 @@ use crate::sessions::Sessions;
 use crate::target::{BeginFault, SessionTarget};
 use crate::told::{is_trouble, operation_of, reservation_in, sense_of, states_in};
 use crate::units::LogicalUnits;
-use event_log::{By, Cause, Event, Initiator, Log};
+use event_log::Log;
+use events::{By, Cause, Event, Initiator};
 use login::SessionType;
 use scsi_types::{Asked, Status};
 use session::{BeginAnswer, ResetAnswer, Target, TargetAnswer};
@@ -26,7 +27,7 @@ pub struct Visitor {
     pub isid: u64,
     /// Its TSIH, 0 before it has begun, and what it is for.
     pub tsih: u16,
-    pub kind: event_log::SessionType,
+    pub kind: events::SessionType,
     /// What it lacked to begin.
     pub lacks: Cause,
     /// Another one took its place.
@@ -42,7 +43,7 @@ impl Visitor {
             name: Vec::new(alloc),
             isid: 0,
             tsih: 0,
-            kind: event_log::SessionType::Normal,
+            kind: events::SessionType::Normal,
             lacks: Cause::Request,
             is_replaced: false,
             was_shut: false,
@@ -228,10 +229,10 @@ fn cause_of(fault: BeginFault) -> Cause {
 }
 
 // What a session is for, as the log names it.
-fn kind_of(kind: SessionType) -> event_log::SessionType {
+fn kind_of(kind: SessionType) -> events::SessionType {
     match kind {
-        SessionType::Normal => event_log::SessionType::Normal,
-        SessionType::Discovery => event_log::SessionType::Discovery,
+        SessionType::Normal => events::SessionType::Normal,
+        SessionType::Discovery => events::SessionType::Discovery,
     }
 }
 

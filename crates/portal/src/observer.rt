@@ -2,7 +2,9 @@
 
 use crate::counted::served_of;
 use crate::target::BeginFault;
-use event_log::{Event, Hand, Initiator, Log, Path, SessionType, Visit};
+use event_log::Log;
+use events::{Event, Initiator, Path, SessionType};
+use meters::{Hand, Visit};
 use scsi_types::Asked;
 use session::TargetAnswer;
 use std::alloc::Global;

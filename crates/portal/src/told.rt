@@ -1,7 +1,7 @@
 //! What of commands and replies the log is told.
 
 use access_states::{AccessState, named_by};
-use event_log::{Access, Action, Operation, Reservation, Sense};
+use events::{Access, Action, Operation, Reservation, Sense};
 use scsi_types::{Asked, Command, PrOutAction, Reply};
 use unit_state::reserve::{LIST_LENGTH, pr_out};
 

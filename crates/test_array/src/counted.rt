@@ -1,9 +1,8 @@
 //! What is counted of an array, and when what failed is over.
 use crate::ends::must;
-use event_log::{
-    CALLS_IN_ORDER, Call, Counts, Ended, Event, Failures, Happenings, Log, Meters, Operation, Part,
-    Place, Served, UnitHappenings,
-};
+use event_log::Log;
+use events::{Call, Event, Operation, Part, Place};
+use meters::{CALLS_IN_ORDER, Counts, Ended, Failures, Happenings, Meters, Served, UnitHappenings};
 use std::alloc::{AllocError, Global};
 use std::sync::{Arc, Wait};
 use std::test::*;

@@ -1,14 +1,15 @@
 //! The thread that writes the lines of a log: how many lines were lost is told behind the next that are written.
 use crate::ends::must;
-use event_log::{Cause, Event, Initiator, Log, Page, Path, SessionType, Why, close, start};
+use event_log::{Log, Page, close, start};
+use events::{Cause, Event, Initiator, Path, SessionType, Why};
 use std::alloc::Global;
 use std::fs::{self, File, OpenFile};
 use std::io;
 use std::net::{Ipv4Addr, SocketAddrV4};
 use std::process::Abort;
 use std::rt::Files;
-use std::sync::atomic::{AtomicBool, AtomicU64, Ordering};
 use std::sync::{Arc, Wait};
+use std::sync::atomic::{AtomicBool, AtomicU64, Ordering};
 use std::thread::Parker;
 use std::time::Clock;
 

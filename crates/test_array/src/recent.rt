@@ -1,9 +1,7 @@
 //! What the array keeps of its last ten minutes.
 use crate::ends::must;
-use event_log::{
-    Counts, Ended, Hand, Initiator, Leaving, Meters, Operation, POINTS, Path, Point, STEP, Served,
-    SessionType, Visit,
-};
+use events::{Initiator, Operation, Path, SessionType};
+use meters::{Counts, Ended, Hand, Leaving, Meters, POINTS, Point, STEP, Served, Visit};
 use std::alloc::{AllocError, Global};
 use std::net::{Ipv4Addr, SocketAddrV4};
 use std::sync::Wait;

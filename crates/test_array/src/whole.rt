@@ -10,7 +10,9 @@ use crate::site::{Site, free_site, make};
 use crate::visits::{Visited, console_lines, is_refused};
 use array::{Administration, open, open_files, serve, serve_timed};
 use command_line::{MAX_UNITS, Options};
-use event_log::{Log, Meters};
+use event_log::Log;
+use meters::Meters;
+use test_connections::{Host, filled};
 use std::alloc::Global;
 use std::fs::{self, File};
 use std::io::BufReader;
@@ -20,7 +22,6 @@ use std::rt::Files;
 use std::sync::Arc;
 use std::test::*;
 use std::time::{Clock, Duration};
-use test_connections::{Host, filled};
 
 /// So many seconds a call of a file may take.
 const PATIENCE: u64 = 20;

@@ -2,9 +2,9 @@
 use Rattle.std.proofs.Common.{◌≡◌, ℕ, List, [], ◌∷◌, ◌++◌, true, refl}
 use Rattle.std.specs.Prelude.{codes}
 use Rattle.std.specs.Fmt.{decimal}
-use Rattle.event_log.specs.Text.{are_plain, hex}
-use Rattle.event_log.proofs.PlainLaws.{hexed, join, number}
-use Rattle.event_log.proofs.PlainLaws.{many as escapes}
+use Rattle.events.specs.Text.{are_plain, hex}
+use Rattle.events.proofs.PlainLaws.{hexed, join, number}
+use Rattle.events.proofs.PlainLaws.{many as escapes}
 use Rattle.window.specs.Text.{word, label_onto, labels_onto, amount_onto, heading_onto, sample_onto}
 use Rattle.window.specs.declared.line.Label.{Label}
 use Rattle.window.specs.declared.line.Label.TheVariants as labels

@@ -4,8 +4,8 @@ use crate::view::{
     ArrayView, Commands, Controller, FailureView, NamedCount, PathView, Registration, SessionView,
     UnitView,
 };
-use event_log::{Point, STEP, UnitPoint};
 use json::Writer;
+use meters::{Point, STEP, UnitPoint};
 use std::alloc::{AllocError, Global};
 
 /// What can be written as a JSON value.

@@ -8,9 +8,9 @@ use crate::script::SCRIPT;
 use crate::troubles::health;
 use crate::view::ArrayView;
 use bytes::{BufMut, Bytes};
-use event_log::Point;
 use http::{HeaderName, HeaderValue, Request, StatusCode, header};
 use http_server::{Response, Service};
+use meters::Point;
 use std::alloc::{AllocError, Global};
 
 /// What collects the state of an array.

@@ -1,6 +1,6 @@
 //! What is known of each line.
 ghost use Rattle.std.specs.Prelude.{◌≡◌, [], codes, true};
-ghost use Rattle.event_log.specs.Text.{are_plain};
+ghost use Rattle.events.specs.Text.{are_plain};
 ghost use Rattle.window.specs.Text.{heading_onto, sample_onto};
 
 use crate::line::{Amount, Label};

@@ -3,7 +3,7 @@ ghost use Rattle.std.specs.Prelude.{◌≡◌, ◌++◌, ◌∷◌, [], codes, O
 ghost use Rattle.std.specs.String.{string_bytes};
 ghost use Rattle.window.specs.Text.{amount_onto, heading_onto, label_onto, labels_onto, sample_onto, word};
 
-use event_log::escape_by;
+use events::escape_by;
 use std::alloc::AllocError;
 
 /// A label of a sample: its name, and its value.

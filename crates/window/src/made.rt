@@ -1,10 +1,8 @@
 //! What is counted, made into what is seen.
 
 use crate::view::{Commands, NamedCount, PathView, SessionView, state_words};
-use event_log::{
-    CALLS_IN_ORDER, CAUSES_IN_ORDER, Call, Counts, Failures, IN_ORDER, Operation, SessionSeen,
-    SessionType, Visit, escape,
-};
+use events::{Call, Operation, SessionType, escape};
+use meters::{CALLS_IN_ORDER, CAUSES_IN_ORDER, Counts, Failures, IN_ORDER, SessionSeen, Visit};
 use std::alloc::{AllocError, Global};
 use std::str;
 

@@ -2,7 +2,8 @@
 
 use crate::made::tallies;
 use crate::view::{ArrayView, Controller, FailureView, NamedCount, PathView, UnitView};
-use event_log::{CALLS_IN_ORDER, Call, Failures, Stamp, UnitHappenings, error_text};
+use events::{Call, Stamp, error_text};
+use meters::{CALLS_IN_ORDER, Failures, UnitHappenings};
 use std::alloc::{AllocError, Global};
 use std::time::Duration;
 

@@ -1,6 +1,6 @@
 //! Calls that failed: how many, since when, by which error, and whether what they told is over.
 
-use crate::event::Place;
+use events::Place;
 use std::sync::atomic::{AtomicU64, Ordering};
 
 /// How often is tried to say that failures are over, where others say so at the same time.

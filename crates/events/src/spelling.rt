@@ -2,14 +2,15 @@
 ghost use Rattle.std.specs.Prelude.{◌≡◌, ◌∷◌, [], OnOk};
 ghost use Rattle.std.specs.Fmt.{decimal};
 ghost use Rattle.std.specs.String.{string_bytes};
-ghost use Rattle.event_log.specs.Text.{by_in, cause_in, command_in, error_in, failed_in, file_in, initiator_in, joined, parts, path_in};
-ghost use Rattle.event_log.specs.Text.{numbered_in, portal_in, sense_in, session_in, stay_in, unusable_in, why_in};
-ghost use Rattle.event_log.specs.declared.event.Event.TheVariants as events;
-ghost use Rattle.event_log.specs.declared.words.Why.TheVariants as whys;
+ghost use Rattle.events.specs.Text.{by_in, cause_in, command_in, error_in, failed_in, file_in, initiator_in, joined, parts, path_in};
+ghost use Rattle.events.specs.Text.{numbered_in, portal_in, sense_in, session_in, stay_in, unusable_in, why_in};
+ghost use Rattle.events.specs.declared.event.Event.TheVariants as events;
+ghost use Rattle.events.specs.declared.words.Why.TheVariants as whys;
 
 use crate::event::{By, Event, Initiator, Path, Place, Reservation};
 use crate::line::Piece::{Address, Hex, Name, Number, Text};
 use crate::line::put;
+use crate::stamp::Stamp;
 use crate::words::{
     Access, Call, Cause, Operation, Part, Sense, SessionType, Stayed, Unusable, Why, error_text,
     reject_text, status_text,
@@ -529,4 +530,11 @@ pub fn spell(line: &mut String, event: &Event<'_>) -> Result<(), AllocError>
         Event::Wanting(what) => put(line, &[Text("event=wanting what="), Text(what.text())]),
         Event::Dropped(count) => counted(line, "event=dropped lines=", *count),
     }
+}
+
+/// Puts the line of an event behind what there is, with the time at which it happened, and its end.
+pub fn put_line(lines: &mut String, when: Stamp, event: &Event<'_>) -> Result<(), AllocError> {
+    write!(lines, "{when} ")?;
+    spell(lines, event)?;
+    lines.push('\n')
 }

@@ -2,16 +2,15 @@
 //! nobody waits for a reader.
 
 use crate::counts::{Counts, Leaving, Served};
-use crate::event::{Event, Place};
 use crate::happenings::{Happenings, Ledger};
 use crate::recent::{Point, Ring};
 use crate::unflushed::UnflushedTally;
 use crate::visit::Visit;
-use crate::words::{Call, Operation, Part};
+use events::{Call, Event, Operation, Part, Place};
 use std::alloc::{AllocError, Global};
 use std::hint::spin_loop;
-use std::sync::atomic::{AtomicU64, Ordering};
 use std::sync::{Arc, Mutex, MutexGuard, Wait};
+use std::sync::atomic::{AtomicU64, Ordering};
 use std::time::{Clock, Duration};
 
 /// How often is tried to reach what readers may hold.
@@ -176,8 +175,8 @@ fn add_at(sums: &mut [Counts], tag: u16, unit: usize, counts: &Counts) {
     }
 }
 
-// The time of the clock that never goes back, in microseconds; 1, where it cannot be read.
-pub(crate) fn clock(rt: &impl Clock) -> u64 {
+/// The time of the clock that never goes back, in microseconds; 1, where it cannot be read.
+pub fn clock(rt: &impl Clock) -> u64 {
     micros(rt.monotonic().unwrap_or(Duration::ZERO)).max(1)
 }
 
@@ -367,7 +366,7 @@ impl Meters {
     }
 
     /// The time of the last look at the clock.
-    pub(crate) fn now(&self) -> u64 {
+    pub fn now(&self) -> u64 {
         self.ticks.load(Ordering::Relaxed)
     }
 
@@ -384,27 +383,27 @@ impl Meters {
     }
 
     /// What is counted of what was written to the disk of a unit and is not flushed.
-    pub(crate) fn unflushed(&self, unit: u8) -> Option<&UnflushedTally> {
+    pub fn unflushed(&self, unit: u8) -> Option<&UnflushedTally> {
         self.happened.unflushed(unit)
     }
 
     /// Counts an event.
-    pub(crate) fn happened(&self, event: &Event<'_>) {
+    pub fn happened(&self, event: &Event<'_>) {
         self.happened.count(self.now(), event);
     }
 
     /// How many calls of a kind failed on a file of a unit.
-    pub(crate) fn failed(&self, unit: u8, part: Part, call: Call) -> u64 {
+    pub fn failed(&self, unit: u8, part: Part, call: Call) -> u64 {
         self.happened.failed(unit, part, call)
     }
 
     /// The first so many of them are over, by what went well.
-    pub(crate) fn end(&self, unit: u8, part: Part, call: Call, count: u64) {
+    pub fn end(&self, unit: u8, part: Part, call: Call, count: u64) {
         self.happened.end(self.now(), unit, part, call, count);
     }
 
     /// These blocks of a file of a unit were read.
-    pub(crate) fn read(&self, unit: u8, part: Part, place: Place) {
+    pub fn read(&self, unit: u8, part: Part, place: Place) {
         self.happened.read(self.now(), unit, part, place);
     }
 

@@ -1,8 +1,8 @@
 -- What the line has, and behind it the pieces that are left.
 use Rattle.std.proofs.Common.{◌≡◌, drop, map}
 use Rattle.std.specs.String.{string_bytes}
-use Rattle.event_log.specs.Text.{joined, piece_text}
-use Rattle.event_log.proofs.line.put.Given as goal
+use Rattle.events.specs.Text.{joined, piece_text}
+use Rattle.events.proofs.line.put.Given as goal
 
 abbrev pub invariant-loop-piece : goal.invariant-loop-piece
 invariant-loop-piece l =

@@ -1,23 +1,23 @@
 -- The words of the log: one name each, of lower-case letters, or what the standard calls it.
 use Rattle.std.specs.Prelude.{ℕ, nat_eq, if◌then◌else◌, List, [], ◌∷◌, codes}
-use Rattle.event_log.specs.declared.words.SessionType.{SessionType}
-use Rattle.event_log.specs.declared.words.SessionType.TheVariants as session_types
-use Rattle.event_log.specs.declared.words.Stayed.{Stayed}
-use Rattle.event_log.specs.declared.words.Stayed.TheVariants as stayeds
-use Rattle.event_log.specs.declared.words.Access.{Access}
-use Rattle.event_log.specs.declared.words.Access.TheVariants as accesses
-use Rattle.event_log.specs.declared.words.Action.{Action}
-use Rattle.event_log.specs.declared.words.Action.TheVariants as actions
-use Rattle.event_log.specs.declared.words.Operation.{Operation}
-use Rattle.event_log.specs.declared.words.Operation.TheVariants as operations
-use Rattle.event_log.specs.declared.words.Part.{Part}
-use Rattle.event_log.specs.declared.words.Part.TheVariants as parts
-use Rattle.event_log.specs.declared.words.Call.{Call}
-use Rattle.event_log.specs.declared.words.Call.TheVariants as calls
-use Rattle.event_log.specs.declared.words.Resource.{Resource}
-use Rattle.event_log.specs.declared.words.Resource.TheVariants as resources
-use Rattle.event_log.specs.declared.words.Unusable.{Unusable}
-use Rattle.event_log.specs.declared.words.Unusable.TheVariants as unusables
+use Rattle.events.specs.declared.words.SessionType.{SessionType}
+use Rattle.events.specs.declared.words.SessionType.TheVariants as session_types
+use Rattle.events.specs.declared.words.Stayed.{Stayed}
+use Rattle.events.specs.declared.words.Stayed.TheVariants as stayeds
+use Rattle.events.specs.declared.words.Access.{Access}
+use Rattle.events.specs.declared.words.Access.TheVariants as accesses
+use Rattle.events.specs.declared.words.Action.{Action}
+use Rattle.events.specs.declared.words.Action.TheVariants as actions
+use Rattle.events.specs.declared.words.Operation.{Operation}
+use Rattle.events.specs.declared.words.Operation.TheVariants as operations
+use Rattle.events.specs.declared.words.Part.{Part}
+use Rattle.events.specs.declared.words.Part.TheVariants as parts
+use Rattle.events.specs.declared.words.Call.{Call}
+use Rattle.events.specs.declared.words.Call.TheVariants as calls
+use Rattle.events.specs.declared.words.Resource.{Resource}
+use Rattle.events.specs.declared.words.Resource.TheVariants as resources
+use Rattle.events.specs.declared.words.Unusable.{Unusable}
+use Rattle.events.specs.declared.words.Unusable.TheVariants as unusables
 
 abbrev pub session_type_text : SessionType → List ℕ
 session_type_text session_types.Normal = codes "normal"

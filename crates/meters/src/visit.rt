@@ -1,7 +1,6 @@
 //! Who a session is, as it is shown.
 
-use crate::event::{Initiator, Path};
-use crate::words::SessionType;
+use events::{Initiator, Path, SessionType};
 use std::alloc::{AllocError, Global};
 use std::time::Duration;
 

@@ -1,9 +1,8 @@
 //! What is counted of events. Whoever tells one counts it at once, and no reader keeps it from that.
 
-use crate::event::{Event, Place};
 use crate::failures::{Failures, Tally};
 use crate::unflushed::{Unflushed, UnflushedTally};
-use crate::words::{Call, Cause, Part};
+use events::{Call, Cause, Event, Part, Place};
 use std::alloc::{AllocError, Global};
 use std::sync::atomic::{AtomicU64, Ordering};
 

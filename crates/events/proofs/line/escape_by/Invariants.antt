@@ -2,8 +2,8 @@
 use Rattle.std.proofs.Common.{◌≡◌, ◌++◌, take}
 use Rattle.std.specs.String.{string_bytes}
 use Rattle.std.specs.List.{flat_map}
-use Rattle.event_log.specs.Text.{escaped_by}
-use Rattle.event_log.proofs.line.escape_by.Given as goal
+use Rattle.events.specs.Text.{escaped_by}
+use Rattle.events.proofs.line.escape_by.Given as goal
 
 abbrev pub invariant-loop-b : goal.invariant-loop-b
 invariant-loop-b l = string_bytes l.line ≡ string_bytes l.initial.line ++ flat_map (escaped_by l.front) (take l.b-index l.name)

@@ -10,30 +10,30 @@ use Rattle.std.specs.Net.Text.{dotted_text, ipv4_text, socket_v4_text}
 use Rattle.std.specs.declared.net.socket_addr.SocketAddrV4.{SocketAddrV4}
 use Rattle.std.proofs.lemmas.Bool.Decides.{nat_tests}
 use Rattle.std.proofs.lemmas.List.Folds.{list_all-append}
-use Rattle.event_log.specs.Words.{access_text, session_type_text, stayed_text, action_text, operation_text, part_text, call_text, resource_text}
-use Rattle.event_log.specs.Words.{unusable_text, named, statuses, status_text, rejects, reject_text, errors, error_text}
-use Rattle.event_log.specs.Text.{is_plain, are_plain, hex_digit, escaped, escaped_by, quoted, joined, hex, initiator_in, path_in, by_in, cause_in}
-use Rattle.event_log.specs.Text.{why_in, session_in, error_in, numbered_in}
-use Rattle.event_log.specs.Text.{parts, text_of}
-use Rattle.event_log.specs.declared.words.Cause.{Cause}
-use Rattle.event_log.specs.declared.words.Cause.TheVariants as causes
-use Rattle.event_log.specs.declared.words.Why.{Why}
-use Rattle.event_log.specs.declared.words.Why.TheVariants as whys
-use Rattle.event_log.specs.declared.event.Initiator.{Initiator}
-use Rattle.event_log.specs.declared.event.Path.{Path}
-use Rattle.event_log.specs.declared.event.By.{By}
-use Rattle.event_log.specs.declared.event.By.TheVariants.{Console, Session}
-use Rattle.event_log.specs.declared.event.Event.{Event}
-use Rattle.event_log.specs.declared.event.Event.TheVariants as events
-use Rattle.event_log.specs.declared.words.SessionType.{SessionType}
-use Rattle.event_log.specs.declared.words.Stayed.{Stayed}
-use Rattle.event_log.specs.declared.words.Access.{Access}
-use Rattle.event_log.specs.declared.words.Action.{Action}
-use Rattle.event_log.specs.declared.words.Operation.{Operation}
-use Rattle.event_log.specs.declared.words.Part.{Part}
-use Rattle.event_log.specs.declared.words.Call.{Call}
-use Rattle.event_log.specs.declared.words.Resource.{Resource}
-use Rattle.event_log.specs.declared.words.Unusable.{Unusable}
+use Rattle.events.specs.Words.{access_text, session_type_text, stayed_text, action_text, operation_text, part_text, call_text, resource_text}
+use Rattle.events.specs.Words.{unusable_text, named, statuses, status_text, rejects, reject_text, errors, error_text}
+use Rattle.events.specs.Text.{is_plain, are_plain, hex_digit, escaped, escaped_by, quoted, joined, hex, initiator_in, path_in, by_in, cause_in}
+use Rattle.events.specs.Text.{why_in, session_in, error_in, numbered_in}
+use Rattle.events.specs.Text.{parts, text_of}
+use Rattle.events.specs.declared.words.Cause.{Cause}
+use Rattle.events.specs.declared.words.Cause.TheVariants as causes
+use Rattle.events.specs.declared.words.Why.{Why}
+use Rattle.events.specs.declared.words.Why.TheVariants as whys
+use Rattle.events.specs.declared.event.Initiator.{Initiator}
+use Rattle.events.specs.declared.event.Path.{Path}
+use Rattle.events.specs.declared.event.By.{By}
+use Rattle.events.specs.declared.event.By.TheVariants.{Console, Session}
+use Rattle.events.specs.declared.event.Event.{Event}
+use Rattle.events.specs.declared.event.Event.TheVariants as events
+use Rattle.events.specs.declared.words.SessionType.{SessionType}
+use Rattle.events.specs.declared.words.Stayed.{Stayed}
+use Rattle.events.specs.declared.words.Access.{Access}
+use Rattle.events.specs.declared.words.Action.{Action}
+use Rattle.events.specs.declared.words.Operation.{Operation}
+use Rattle.events.specs.declared.words.Part.{Part}
+use Rattle.events.specs.declared.words.Call.{Call}
+use Rattle.events.specs.declared.words.Resource.{Resource}
+use Rattle.events.specs.declared.words.Unusable.{Unusable}
 
 pub both : (a b : Bool) → a ≡ true → b ≡ true → (a && b) ≡ true
 both true b pa pb = pb

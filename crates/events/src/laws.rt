@@ -1,6 +1,6 @@
 //! What is known of each line.
 ghost use Rattle.std.specs.Prelude.{◌≡◌, true};
-ghost use Rattle.event_log.specs.Text.{are_plain, text_of};
+ghost use Rattle.events.specs.Text.{are_plain, text_of};
 
 use crate::event::Event;
 

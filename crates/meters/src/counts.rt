@@ -1,7 +1,7 @@
 //! What is counted of the commands at a unit.
 ghost use Rattle.std.specs.Prelude.{◌≤◌, ◌<◌};
 
-use crate::words::Operation;
+use events::Operation;
 
 /// How many operations are told apart.
 pub const OPERATIONS: usize = 7;

@@ -1,7 +1,7 @@
 //! What was counted of an array in the last ten minutes, by points, in memory that is taken once.
 
 use crate::counts::Counts;
-use crate::words::Operation;
+use events::Operation;
 use std::alloc::{AllocError, Global};
 
 /// So many seconds lie between two points.

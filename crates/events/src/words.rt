@@ -1,8 +1,8 @@
 //! The words of the log.
 ghost use Rattle.std.specs.Prelude.{◌≡◌};
-ghost use Rattle.event_log.specs.Words.{access_text, action_text, call_text, error_text, session_type_text, operation_text, part_text};
-ghost use Rattle.event_log.specs.Words.{resource_text};
-ghost use Rattle.event_log.specs.Words.{status_text, stayed_text, unusable_text, reject_text};
+ghost use Rattle.events.specs.Words.{access_text, action_text, call_text, error_text, session_type_text, operation_text, part_text};
+ghost use Rattle.events.specs.Words.{resource_text};
+ghost use Rattle.events.specs.Words.{status_text, stayed_text, unusable_text, reject_text};
 
 /// What a session is for (RFC 7143, 4.3).
 #[derive(Clone, Copy)]

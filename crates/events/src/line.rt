@@ -2,7 +2,7 @@
 ghost use Rattle.std.specs.Prelude.{◌≡◌, ◌++◌, ◌∷◌, [], ◌<◌, ◌/◌, ◌%◌, codes, map, OnOk};
 ghost use Rattle.std.specs.String.{string_bytes};
 ghost use Rattle.std.specs.List.{flat_map};
-ghost use Rattle.event_log.specs.Text.{escaped, escaped_by, hex_digit, joined, piece_text, quoted};
+ghost use Rattle.events.specs.Text.{escaped, escaped_by, hex_digit, joined, piece_text, quoted};
 
 use std::alloc::AllocError;
 use std::net::SocketAddrV4;

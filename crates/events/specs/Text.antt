@@ -4,29 +4,29 @@ use Rattle.std.specs.List.{flat_map, list_all}
 use Rattle.std.specs.Fmt.{decimal, digits}
 use Rattle.std.specs.Net.Text.{socket_v4_text}
 use Rattle.std.specs.declared.net.socket_addr.SocketAddrV4.{SocketAddrV4}
-use Rattle.event_log.specs.declared.words.Cause.{Cause}
-use Rattle.event_log.specs.declared.words.Cause.TheVariants as causes
-use Rattle.event_log.specs.declared.words.Why.{Why}
-use Rattle.event_log.specs.declared.words.Why.TheVariants as whys
-use Rattle.event_log.specs.declared.words.Sense.{Sense}
-use Rattle.event_log.specs.declared.words.SessionType.{SessionType}
-use Rattle.event_log.specs.declared.words.Operation.{Operation}
-use Rattle.event_log.specs.declared.words.Part.{Part}
-use Rattle.event_log.specs.declared.words.Access.{Access}
-use Rattle.event_log.specs.declared.words.Call.{Call}
-use Rattle.event_log.specs.declared.words.Stayed.{Stayed}
-use Rattle.event_log.specs.declared.words.Unusable.{Unusable}
-use Rattle.event_log.specs.declared.event.Initiator.{Initiator}
-use Rattle.event_log.specs.declared.event.Path.{Path}
-use Rattle.event_log.specs.declared.event.Place.{Place}
-use Rattle.event_log.specs.declared.event.By.{By}
-use Rattle.event_log.specs.declared.event.By.TheVariants.{Console, Session}
-use Rattle.event_log.specs.declared.line.Piece.{Piece}
-use Rattle.event_log.specs.declared.line.Piece.TheVariants as pieces
-use Rattle.event_log.specs.declared.event.Event.{Event}
-use Rattle.event_log.specs.declared.event.Event.TheVariants as events
-use Rattle.event_log.specs.Words.{access_text, session_type_text, stayed_text, action_text, operation_text, part_text, call_text, resource_text}
-use Rattle.event_log.specs.Words.{unusable_text, status_text, reject_text, error_text}
+use Rattle.events.specs.declared.words.Cause.{Cause}
+use Rattle.events.specs.declared.words.Cause.TheVariants as causes
+use Rattle.events.specs.declared.words.Why.{Why}
+use Rattle.events.specs.declared.words.Why.TheVariants as whys
+use Rattle.events.specs.declared.words.Sense.{Sense}
+use Rattle.events.specs.declared.words.SessionType.{SessionType}
+use Rattle.events.specs.declared.words.Operation.{Operation}
+use Rattle.events.specs.declared.words.Part.{Part}
+use Rattle.events.specs.declared.words.Access.{Access}
+use Rattle.events.specs.declared.words.Call.{Call}
+use Rattle.events.specs.declared.words.Stayed.{Stayed}
+use Rattle.events.specs.declared.words.Unusable.{Unusable}
+use Rattle.events.specs.declared.event.Initiator.{Initiator}
+use Rattle.events.specs.declared.event.Path.{Path}
+use Rattle.events.specs.declared.event.Place.{Place}
+use Rattle.events.specs.declared.event.By.{By}
+use Rattle.events.specs.declared.event.By.TheVariants.{Console, Session}
+use Rattle.events.specs.declared.line.Piece.{Piece}
+use Rattle.events.specs.declared.line.Piece.TheVariants as pieces
+use Rattle.events.specs.declared.event.Event.{Event}
+use Rattle.events.specs.declared.event.Event.TheVariants as events
+use Rattle.events.specs.Words.{access_text, session_type_text, stayed_text, action_text, operation_text, part_text, call_text, resource_text}
+use Rattle.events.specs.Words.{unusable_text, status_text, reject_text, error_text}
 
 -- ---- what a name is between quotes
 
