@@ -5,14 +5,11 @@ ghost use Rattle.unit_state.specs.Serials.{IsOpening};
 use aptpl_file::OpenFault;
 use block_file::{Blocks, Opener};
 use command_line::{Fault, MAX_UNITS, Options};
-use disk_files::{
-    Disk, DiskFault, DiskLock, FileBlocks, FileFault, FileLog, FileOpener, FilePreparer,
-    NamedBlocks, Registrations, RegistrationsFault, SystemFile, UnitFileFault, UnitName, open_as,
-    open_disk, open_registrations,
-};
+use disk_files::{Disk, DiskFault, DiskLock, FileBlocks, FileFault, FileLog, FileOpener, NamedBlocks, Registrations, RegistrationsFault, SystemFile, UnitFileFault, UnitName, open_as, open_disk, open_registrations};
 use disk_preparer::{OnDisk, Preparer};
 use event_log::Log;
 use events::{Event, Part, Unusable};
+use file_preparer::FilePreparer;
 use scsi_types::Place;
 use unit_history::NewUnit;
 use unit_state::{Unit, laws};

@@ -9,15 +9,15 @@ use aptpl_file::RegFile;
 use array_administration::Administration;
 use block_file::{KeepOpener, Opener};
 use command_line::{Fault, MAX_UNITS, Options};
-use deadline::{Deadlined, DeadlinedOpener, DeadlinedPreparer, Watch};
-use disk_files::{
-    DiskLock, FileBlocks, FileDevice, FileOpener, FilePreparer, NamedBlocks, SystemFile,
-};
+use deadline::{Deadlined, DeadlinedOpener, DeadlinedPreparer};
+use disk_files::{DiskLock, FileBlocks, FileDevice, FileOpener, NamedBlocks, SystemFile};
 use disk_preparer::{Node, Preparer};
 use event_log::Log;
 use events::{Part, Unusable};
+use file_preparer::FilePreparer;
 use reservations::Record;
 use scsi_types::Place;
+use timed_calls::Watch;
 use unit_state::{Unit, laws};
 use std::alloc::Global;
 use std::fs::File;

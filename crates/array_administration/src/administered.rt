@@ -1,9 +1,9 @@
 //! An array that is served, as the window and the control socket ask it.
 
+use array_view::Registration;
 use event_log::Log;
 use scsi_types::Group;
 use status::Row;
-use window::Registration;
 use std::alloc::Global;
 use std::io::{self, Write};
 use std::net::SocketAddrV4;

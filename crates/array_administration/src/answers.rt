@@ -3,9 +3,10 @@
 use crate::administered::Administered;
 use crate::collector::ArrayCollector;
 use crate::lines::{say_moved, text_of};
+use array_view::{ArrayView, Registration, SessionView, UnitView, health, spelled};
 use events::Event;
 use scsi_types::Group;
-use window::{ArrayView, Collector, Registration, Seen, SessionView, UnitView, health, spelled};
+use window::{Collector, Seen};
 use std::alloc::Global;
 use std::io::{self, Write};
 use std::sync::{Mutex, Wait};

@@ -1,19 +1,17 @@
 //! What the window collects of the array.
 
 use crate::administered::Administered;
+use array_view::{ArrayView, Controller, PathView, Registration, SessionView, Signs, UnitView};
 use command_line::Options;
 use events::SessionType;
 use meters::{BOUNDS, Point, Seen, UnitHappenings};
 use scsi_types::Group;
 use status::Row;
-use window::{
-    ArrayView, Collector, Controller, PathView, Registration, Seen as Shown, SessionView, Signs,
-    UnitView,
-};
+use window::{Collector, Seen as Shown};
 use std::alloc::{AllocError, Global};
 use std::net::SocketAddrV4;
-use std::sync::{Arc, Wait};
 use std::sync::atomic::{AtomicU64, Ordering};
+use std::sync::{Arc, Wait};
 use std::time::{Clock, Duration};
 
 /// What does not change while the array is served, as it is shown.
@@ -58,11 +56,11 @@ fn fixed_by(
 ) -> Result<Fixed, AllocError> {
     let mut disks = Vec::new(alloc);
     for path in &options.paths {
-        disks.push(window::named(alloc, path.as_bytes())?)?;
+        disks.push(array_view::named(alloc, path.as_bytes())?)?;
     }
     Ok(Fixed {
         version,
-        target: window::named(alloc, options.target.as_bytes())?,
+        target: array_view::named(alloc, options.target.as_bytes())?,
         array: u64::from(options.array),
         disks,
         origin: AtomicU64::new(origin),
@@ -90,8 +88,8 @@ fn paths_of(
     let first = place.saturating_mul(2);
     let second = first.saturating_add(1);
     let mut paths = Vec::new(alloc);
-    paths.push(window::path(alloc, 1, row.states.0, seen.counts.get(first))?)?;
-    paths.push(window::path(alloc, 2, row.states.1, seen.counts.get(second))?)?;
+    paths.push(array_view::path(alloc, 1, row.states.0, seen.counts.get(first))?)?;
+    paths.push(array_view::path(alloc, 2, row.states.1, seen.counts.get(second))?)?;
     Ok(paths)
 }
 
@@ -140,11 +138,11 @@ fn unit_of(
         disk,
         registration_file,
         blocks: happened.blocks,
-        health: window::health_words(&signs),
-        troubles: window::trouble_tallies(alloc, &signs)?,
-        failures: window::failure_views(alloc, fixed.origin.load(Ordering::Relaxed), happened)?,
-        disk_failures: window::failures(alloc, &happened.disk)?,
-        registration_failures: window::failures(alloc, &happened.registrations)?,
+        health: array_view::health_words(&signs),
+        troubles: array_view::trouble_tallies(alloc, &signs)?,
+        failures: array_view::failure_views(alloc, fixed.origin.load(Ordering::Relaxed), happened)?,
+        disk_failures: array_view::failures(alloc, &happened.disk)?,
+        registration_failures: array_view::failures(alloc, &happened.registrations)?,
         hung: happened.hung.count,
         oldest_command_micros: oldest,
         unflushed_bytes: happened.unflushed.bytes,
@@ -224,7 +222,7 @@ fn controllers_of<A: Administered>(
 fn sessions_of(alloc: Global, seen: &Seen) -> Result<Vec<SessionView>, AllocError> {
     let mut sessions = Vec::with_capacity(alloc, seen.sessions.len())?;
     for session in &seen.sessions {
-        sessions.push(window::session(alloc, session)?)?;
+        sessions.push(array_view::session(alloc, session)?)?;
     }
     Ok(sessions)
 }
@@ -315,8 +313,8 @@ impl<R: Wait + Clock + Drop, A: Administered + Drop> Collector for ArrayCollecto
         let array: &A = &self.array;
         let units = units_of(&self.rt, alloc, array, &self.fixed, &seen, shown)?;
         let controllers = controllers_of(alloc, array, &units, &seen)?;
-        let degraded = window::degraded(alloc, &units, &controllers)?;
-        let problems = window::problems(alloc, &units, array.log().is_failing())?;
+        let degraded = array_view::degraded(alloc, &units, &controllers)?;
+        let problems = array_view::problems(alloc, &units, array.log().is_failing())?;
         Ok(ArrayView {
             version: self.fixed.version,
             target: self.fixed.target.clone()?,
@@ -327,7 +325,7 @@ impl<R: Wait + Clock + Drop, A: Administered + Drop> Collector for ArrayCollecto
             units,
             sessions: sessions_of(alloc, &seen)?,
             logins: seen.happened.logins,
-            refused_logins: window::refusals(alloc, &seen.happened.refused)?,
+            refused_logins: array_view::refusals(alloc, &seen.happened.refused)?,
             bounds_micros: Vec::from_slice(alloc, &BOUNDS)?,
             problems,
             degraded,

@@ -3,6 +3,7 @@
 use crate::operated::{Operated, row_at};
 use crate::registrations::registrations;
 use array_administration::{Administered, Operations, say_status};
+use array_view::Registration;
 use block_file::{Blocks, Opener};
 use event_log::Log;
 use portal::{Controllers, Server};
@@ -10,7 +11,6 @@ use scsi_types::Group;
 use status::Row;
 use unit_history::Opened;
 use unit_sequence::Namings;
-use window::Registration;
 use std::alloc::Global;
 use std::io::{self, Write};
 use std::net::SocketAddrV4;

@@ -1,13 +1,13 @@
 //! The registrations of a unit, as the window and the control socket show them.
 
 use array_units::Units;
+use array_view::Registration;
 use block_file::{Blocks, Opener};
 use registrants::{Registrant, Reservation};
 use reservations::Registry;
-use std::alloc::{AllocError, Global};
 use unit_history::Opened;
 use unit_sequence::Namings;
-use window::Registration;
+use std::alloc::{AllocError, Global};
 
 // The type of the reservation, where this registrant holds it (SPC-4, 5.13.9): of types 7 and 8 every registrant does.
 // 0 where it holds none.
@@ -35,8 +35,8 @@ fn registration_of(
     let (nexus, key) = (&registrant.nexus, registrant.key);
     let (isid, kind) = (nexus.isid(), held_type(registrant, reservation));
     Ok(Registration {
-        initiator: window::named(alloc, nexus.name())?,
-        spelled: window::spelled(alloc, nexus.name())?,
+        initiator: array_view::named(alloc, nexus.name())?,
+        spelled: array_view::spelled(alloc, nexus.name())?,
         isid: format!(in alloc; "0x{isid:x}")?,
         key: format!(in alloc; "0x{key:x}")?,
         controller: u64::from(nexus.group().number()),

@@ -3,8 +3,8 @@ use Rattle.std.proofs.Common.{◌≡◌, ◌≤◌, ℕ, List, sym, ap, subst, a
 use Rattle.disk_files.specs.Lasting.{IsSettled}
 use Rattle.disk_preparer.specs.declared.Node.{Node}
 use Rattle.deadline.specs.Answers.{Calls, given_to, HasWritten}
-use Rattle.deadline.specs.declared.errand.Wanted.{Wanted}
-use Rattle.deadline.specs.declared.errand.Wanted.TheVariants.{Write}
+use Rattle.deadline.specs.declared.request.Wanted.{Wanted}
+use Rattle.deadline.specs.declared.request.Wanted.TheVariants.{Write}
 
 pub given_written : {B O : Type 0} (c : Calls B O) (disk : Node) (first writes : ℕ) (wanted : Wanted) (bytes : List ℕ)
     → wanted ≡ Write first → HasWritten c disk first bytes writes → HasWritten c disk first (given_to wanted bytes) writes

@@ -1,2 +1,1 @@
 mod Given
-mod Handed

@@ -10,12 +10,12 @@ use Rattle.disk_files.specs.Lasting.{IsSettled}
 use Rattle.disk_preparer.specs.declared.Node.{Node}
 use Rattle.disk_preparer.specs.declared.OnDisk as of_place
 use Rattle.disk_preparer.specs.Beside.{was_read}
-use Rattle.deadline.specs.declared.errand.Wanted.{Wanted}
-use Rattle.deadline.specs.declared.errand.Wanted.TheVariants.{Read, Write, Flush, Open}
+use Rattle.deadline.specs.declared.request.Wanted.{Wanted}
+use Rattle.deadline.specs.declared.request.Wanted.TheVariants.{Read, Write, Flush, Open}
 
 -- What a thread is asked, or was, as contracts see it, and the number of its asking. What was answered is of this file, and so many
 -- writes of the device had ended by then.
-pub record ErrandValue : Type 0 where
+pub record RequestValue : Type 0 where
   pub serial : ℕ
   pub wanted : Wanted
   pub bytes : List ℕ

@@ -1,4 +1,2 @@
 pub mod Answers
-pub mod Back
 pub mod Counted
-pub mod Handing

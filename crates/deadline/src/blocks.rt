@@ -8,12 +8,11 @@ ghost use Rattle.block_file.specs.Failures.{last_count};
 ghost use Rattle.deadline.specs.Counted.{CountsRead, CountsWrite};
 ghost use Rattle.deadline.specs.Answers.{calls, HasAnswered, HasFlushed, HasOpened, HasRead, HasWritten, WereGiven};
 
-use crate::asker::{Asker, Turn};
-use crate::errand::{DeviceRunner, Errand, Wanted};
-use crate::watch::Watch;
+use crate::request::{DeviceRunner, Request, Wanted};
 use block_file::{Blocks, DeviceFailed, Opener};
 use disk_files::FileDevice;
 use disk_preparer::{BlockMemory, Node, OnDisk};
+use timed_calls::{Asker, Turn, Watch};
 use std::alloc::Global;
 use std::io;
 use std::sync::{Arc, Mutex, Wait};
@@ -27,7 +26,7 @@ use std::time::Clock;
 /// before.
 pub struct Deadlined<R: Wait + Clock + Drop, B: FileDevice, O: Opener<B>> {
     rt: R,
-    asker: Mutex<Asker<R, Errand<B, O>>>,
+    asker: Mutex<Asker<R, Request<B, O>>>,
     count: u32,
     // Which file the device is over.
     node: Node,
@@ -80,9 +79,9 @@ impl<
             × (d.ended ≡ 0)) }
     {
         let count = blocks.count();
-        let errand = Errand::new(alloc)?;
+        let request = Request::new(alloc)?;
         let served = DeviceRunner { blocks, opener };
-        let asker = Asker::start(rt, alloc, served, errand, watch)?;
+        let asker = Asker::start(rt, alloc, served, request, watch)?;
         Ok(Deadlined {
             rt: rt.clone()?,
             asker: Mutex::new(asker),
@@ -100,9 +99,9 @@ impl<
 // Takes the right to ask. Where the call before came late, what it was has landed since: it counts as one more write that came back, so
 // that nothing is taken that was read beside the device before.
 fn take_by<R: Wait + Clock + Drop, B: FileDevice, O: Opener<B>>(
-    asker: &mut Asker<R, Errand<B, O>>,
+    asker: &mut Asker<R, Request<B, O>>,
     writes: &mut u64,
-) -> Option<(Turn, Errand<B, O>)>
+) -> Option<(Turn, Request<B, O>)>
     ensures rises { writes.old ≤ writes.new }
     ensures told { IfSome result (λ t. asker.new.is_late ≡ false) }
 {
@@ -116,7 +115,7 @@ fn take_by<R: Wait + Clock + Drop, B: FileDevice, O: Opener<B>>(
 
 // Reads a run of this file, by the thread of its device.
 fn read_by<R: Wait + Clock + Drop, B: FileDevice, O: Opener<B>>(
-    asker: &mut Asker<R, Errand<B, O>>,
+    asker: &mut Asker<R, Request<B, O>>,
     writes: &mut u64,
     disk: Node,
     first: u32,
@@ -126,11 +125,11 @@ fn read_by<R: Wait + Clock + Drop, B: FileDevice, O: Opener<B>>(
         disk first bytes.new }
     ensures rises { writes.old ≤ writes.new }
 {
-    let Some((turn, errand)) = take_by(asker, writes) else {
+    let Some((turn, request)) = take_by(asker, writes) else {
         return false;
     };
-    let errand = errand.with_room(turn.serial, Wanted::Read(first), bytes.len());
-    let Some(answered) = asker.ask(turn, errand) else {
+    let request = request.with_room(turn.serial, Wanted::Read(first), bytes.len());
+    let Some(answered) = asker.ask(turn, request) else {
         return false;
     };
     let is_read = answered.gives(disk, first, bytes);
@@ -138,11 +137,11 @@ fn read_by<R: Wait + Clock + Drop, B: FileDevice, O: Opener<B>>(
     is_read
 }
 
-// Reads a run of this file into memory that goes to the thread of its device and comes back, by this right to ask and this errand.
+// Reads a run of this file into memory that goes to the thread of its device and comes back, by this right to ask and this request.
 fn read_into_by<R: Wait + Clock + Drop, B: FileDevice, O: Opener<B>>(
-    asker: &mut Asker<R, Errand<B, O>>,
+    asker: &mut Asker<R, Request<B, O>>,
     turn: Turn,
-    errand: Errand<B, O>,
+    request: Request<B, O>,
     disk: Node,
     first: u32,
     bytes: Vec<u8>,
@@ -154,8 +153,8 @@ fn read_into_by<R: Wait + Clock + Drop, B: FileDevice, O: Opener<B>>(
     let wanted = Wanted::Read(first);
     let count = bytes.len();
     let serial = turn.serial;
-    let (errand, own) = errand.with_memory(serial, wanted, bytes);
-    let answered = asker.ask(turn, errand)?;
+    let (request, own) = request.with_memory(serial, wanted, bytes);
+    let answered = asker.ask(turn, request)?;
     let is_read = answered.has_done_all(disk, wanted, count);
     let (kept, read) = answered.with_memory(serial, Wanted::Flush(0), own);
     asker.keep(kept);
@@ -164,7 +163,7 @@ fn read_into_by<R: Wait + Clock + Drop, B: FileDevice, O: Opener<B>>(
 
 // Writes a run of this file, by the thread of its device: how many of its writes have ended then, where it was done.
 fn write_by<R: Wait + Clock + Drop, B: FileDevice, O: Opener<B>>(
-    asker: &mut Asker<R, Errand<B, O>>,
+    asker: &mut Asker<R, Request<B, O>>,
     writes: &mut u64,
     disk: Node,
     first: u32,
@@ -174,14 +173,14 @@ fn write_by<R: Wait + Clock + Drop, B: FileDevice, O: Opener<B>>(
         disk first bytes.now ended) }
     ensures rises { writes.old ≤ writes.new }
 {
-    let (turn, errand) = take_by(asker, writes)?;
-    let (errand, has_room) = errand.with_bytes(turn.serial, first, bytes);
+    let (turn, request) = take_by(asker, writes)?;
+    let (request, has_room) = request.with_bytes(turn.serial, first, bytes);
     if !has_room {
-        asker.keep(errand);
+        asker.keep(request);
         return None;
     }
     asker.watch().writes_bytes(bytes.len());
-    let answered = asker.ask(turn, errand)?;
+    let answered = asker.ask(turn, request)?;
     let ended = answered.has_written(disk, first);
     asker.keep(answered);
     ended
@@ -202,19 +201,19 @@ fn one_more(told: Option<u64>, ended: &mut u64) -> bool
     }
 }
 
-// Has the thread of the device of this file do what takes no bytes, by this right to ask and this errand: whether that was done.
+// Has the thread of the device of this file do what takes no bytes, by this right to ask and this request: whether that was done.
 fn done_by<R: Wait + Clock + Drop, B: FileDevice, O: Opener<B>>(
-    asker: &mut Asker<R, Errand<B, O>>,
+    asker: &mut Asker<R, Request<B, O>>,
     turn: Turn,
-    errand: Errand<B, O>,
+    request: Request<B, O>,
     disk: Node,
     wanted: Wanted,
 ) -> bool
     ensures { IsTrue result → (writes : ℕ) × (bytes : List ℕ) ×
         HasAnswered (calls B.Blocks B.OnDisk B.has_read B.has_written B.lasts B.writes O.Opener) disk writes wanted bytes }
 {
-    let errand = errand.with_room(turn.serial, wanted, 0);
-    let Some(answered) = asker.ask(turn, errand) else {
+    let request = request.with_room(turn.serial, wanted, 0);
+    let Some(answered) = asker.ask(turn, request) else {
         return false;
     };
     let is_done = answered.has_done(disk, wanted);
@@ -224,7 +223,7 @@ fn done_by<R: Wait + Clock + Drop, B: FileDevice, O: Opener<B>>(
 
 // Has the thread of the device of this file flush it, so many of whose writes have ended, and tells the watch of a flush that is done.
 fn flush_by<R: Wait + Clock + Drop, B: FileDevice, O: Opener<B>>(
-    asker: &mut Asker<R, Errand<B, O>>,
+    asker: &mut Asker<R, Request<B, O>>,
     writes: &mut u64,
     disk: Node,
     ended: u64,
@@ -233,11 +232,11 @@ fn flush_by<R: Wait + Clock + Drop, B: FileDevice, O: Opener<B>>(
         disk ended }
     ensures rises { writes.old ≤ writes.new }
 {
-    let Some((turn, errand)) = take_by(asker, writes) else {
+    let Some((turn, request)) = take_by(asker, writes) else {
         return false;
     };
     let written = asker.watch().written();
-    let is_flushed = done_by(asker, turn, errand, disk, Wanted::Flush(ended));
+    let is_flushed = done_by(asker, turn, request, disk, Wanted::Flush(ended));
     if is_flushed {
         asker.watch().has_flushed(written);
     }
@@ -252,11 +251,11 @@ impl<R: Wait + Clock + Drop, B: FileDevice, O: Opener<B>> Deadlined<R, B, O> {
     {
         let mut asker = self.asker.lock(&self.rt);
         match asker.take() {
-            Some((turn, errand)) => {
+            Some((turn, request)) => {
                 done_by(
                     &mut asker,
                     turn,
-                    errand,
+                    request,
                     self.node,
                     Wanted::Open(self.ended),
                 )
@@ -353,16 +352,16 @@ impl<R: Wait + Clock + Drop, B: FileDevice, O: Opener<B>> Blocks for Deadlined<R
         ensures opened { (self.new.opened ≡ self.old.opened) × (self.new.node ≡ self.old.node) × (self.new.ended ≡ self.old.ended) }
     {
         let asker = self.asker.get_mut();
-        let Some((turn, errand)) = take_by(asker, &mut self.writes) else {
+        let Some((turn, request)) = take_by(asker, &mut self.writes) else {
             self.failed_reads = self.failed_reads.saturating_add(1);
             return Err(DeviceFailed);
         };
         let writes = self.writes;
         if writes < u64::MAX && memory.holds(self.node, u64::from(first), writes) {
-            asker.keep(errand);
+            asker.keep(request);
             return Ok(memory.bytes);
         }
-        match read_into_by(asker, turn, errand, self.node, first, memory.bytes) {
+        match read_into_by(asker, turn, request, self.node, first, memory.bytes) {
             Some(blocks) => Ok(blocks),
             None => {
                 self.failed_reads = self.failed_reads.saturating_add(1);

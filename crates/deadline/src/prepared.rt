@@ -1,13 +1,12 @@
 //! A preparer whose calls have a deadline.
 ghost use Rattle.std.specs.Prelude.{◌≡◌, true, IfOk, IfSome, IsTrue, length};
 ghost use Rattle.std.specs.Arc.{arc_value};
-ghost use Rattle.deadline.specs.Back.{had_come_back};
+ghost use Rattle.timed_calls.specs.Back.{had_come_back};
 
 use crate::ahead::{Ahead, Hint, HintKind, has_edges};
-use crate::asker::{Asker, FOR_ERRANDS};
-use crate::preparer_errand::{PreparerCall, PreparerErrand, PreparerRunner};
-use crate::watch::Watch;
+use crate::preparer_request::{PreparerCall, PreparerRequest, PreparerRunner};
 use disk_preparer::{Account, Beside, BlockMemory, Node, Preparer};
+use timed_calls::{Asker, FOR_REQUESTS, Watch};
 use std::alloc::Global;
 use std::io;
 use std::sync::atomic::{AtomicUsize, Ordering};
@@ -28,8 +27,8 @@ pub struct DeadlinedPreparer<R: Wait + Clock + Drop, P: Preparer> {
     preparer: Arc<P, Global>,
     node: Node,
     watch: Arc<Watch, Global>,
-    fetchers: Vec<Mutex<Asker<R, PreparerErrand<P>>>>,
-    flushers: Vec<Mutex<Asker<R, PreparerErrand<P>>>>,
+    fetchers: Vec<Mutex<Asker<R, PreparerRequest<P>>>>,
+    flushers: Vec<Mutex<Asker<R, PreparerRequest<P>>>>,
     turns: AtomicUsize,
     ahead: Arc<Ahead, Global>,
     ghost watched: { (arc_value watch).node ≡ node },
@@ -61,7 +60,7 @@ fn askers<
     disk: Node,
     watch: &Arc<Watch, Global>,
     ahead: &Arc<Ahead, Global>,
-) -> io::Result<Vec<Mutex<Asker<R, PreparerErrand<P>>>>>
+) -> io::Result<Vec<Mutex<Asker<R, PreparerRequest<P>>>>>
     requires disk { P.disk (arc_value preparer.now) ≡ disk }
     requires watched { (arc_value watch.now).node ≡ disk }
 {
@@ -75,13 +74,13 @@ fn askers<
             Arc::try_clone(watch)?,
             Arc::try_clone(ahead)?,
         )?;
-        let errand = PreparerErrand::of(0, PreparerCall::Flush, disk);
+        let request = PreparerRequest::of(0, PreparerCall::Flush, disk);
         let looks = if number == 0 {
-            FOR_ERRANDS
+            FOR_REQUESTS
         } else {
-            FOR_ERRANDS / 40
+            FOR_REQUESTS / 40
         };
-        askers.push(Mutex::new(Asker::start_looking(rt, alloc, served, errand, watch, looks)?))?;
+        askers.push(Mutex::new(Asker::start_looking(rt, alloc, served, request, watch, looks)?))?;
     }
     Ok(askers)
 }
@@ -121,17 +120,17 @@ impl<
 
 // Has a thread do what is wanted: whether a flush was done.
 fn ask_by<R: Wait + Clock + Drop, P: Preparer>(
-    asker: &mut Asker<R, PreparerErrand<P>>,
+    asker: &mut Asker<R, PreparerRequest<P>>,
     wanted: PreparerCall,
     disk: Node,
 ) -> bool
     ensures { IsTrue result → P.has_flushed disk }
 {
-    let Some((turn, _errand)) = asker.take() else {
+    let Some((turn, _request)) = asker.take() else {
         return false;
     };
-    let errand = PreparerErrand::of(turn.serial, wanted, disk);
-    let Some(answered) = asker.ask(turn, errand) else {
+    let request = PreparerRequest::of(turn.serial, wanted, disk);
+    let Some(answered) = asker.ask(turn, request) else {
         return false;
     };
     let is_flushed = answered.has_flushed(disk);
@@ -143,8 +142,8 @@ impl<R: Wait + Clock + Drop, P: Preparer> DeadlinedPreparer<R, P> {
     // One who asks and has nothing to do, or one for whom others wait too; none where there is none.
     fn free<'a>(
         &'a self,
-        askers: &'a [Mutex<Asker<R, PreparerErrand<P>>>],
-    ) -> Option<MutexGuard<'a, Asker<R, PreparerErrand<P>>>> {
+        askers: &'a [Mutex<Asker<R, PreparerRequest<P>>>],
+    ) -> Option<MutexGuard<'a, Asker<R, PreparerRequest<P>>>> {
         if askers.is_empty() {
             return None;
         }
@@ -182,14 +181,14 @@ impl<R: Wait + Clock + Drop, P: Preparer> DeadlinedPreparer<R, P> {
 
 // Has a thread read blocks of this disk beside its device. None: the memory is gone.
 fn read_by<R: Wait + Clock + Drop, P: Preparer>(
-    asker: &mut Asker<R, PreparerErrand<P>>,
+    asker: &mut Asker<R, PreparerRequest<P>>,
     wanted: PreparerCall,
     bytes: Vec<u8>,
     disk: Node,
 ) -> Option<BlockMemory> {
-    let (turn, _errand) = asker.take()?;
-    let errand = PreparerErrand::reading(turn.serial, wanted, disk, bytes);
-    let answered = asker.ask(turn, errand)?;
+    let (turn, _request) = asker.take()?;
+    let request = PreparerRequest::reading(turn.serial, wanted, disk, bytes);
+    let answered = asker.ask(turn, request)?;
     let mut answered = answered;
     let memory = answered.memory.take();
     asker.keep(answered);
@@ -199,7 +198,7 @@ fn read_by<R: Wait + Clock + Drop, P: Preparer>(
 // Has a thread read blocks beside the device, behind such a look, which stands for its stamp. None: the memory is gone.
 #[tactic(auto, using(crate::specs::Back::a_read_behind_a_look_says))]
 fn read_behind<R: Wait + Clock + Drop, P: Preparer>(
-    asker: &mut Asker<R, PreparerErrand<P>>,
+    asker: &mut Asker<R, PreparerRequest<P>>,
     beside: Beside,
     bytes: Vec<u8>,
     is_looked_at: bool,

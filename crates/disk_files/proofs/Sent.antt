@@ -1,4 +1,4 @@
--- Devices over files and their preparers may be held by several threads: their parts lie too deep for one search.
+-- Devices over files may be held by several threads: their parts lie too deep for one search.
 use denote.RattleType.{RattleType}
 use denote.Param.Send.{IsSend, IsSync, recorded_send, recorded_sync, struct_send, struct_sync, sendable}
 use denote.Struct.Declared.{shape}
@@ -8,20 +8,18 @@ use Rattle.std.specs.declared.fs.File.{File}
 use Rattle.std.specs.declared.io.traits.Read.{Ghosts as Reading}
 use Rattle.std.specs.declared.io.traits.Seek.{Ghosts as Seeking}
 use Rattle.std.specs.declared.io.traits.Write.{Ghosts as Writing}
-use Rattle.disk_files.proofs.backlog.Backlog.TheSendSync.{the_send as backlog_send, the_sync as backlog_sync}
 use Rattle.disk_files.proofs.file_log.FileLog.TheSendSync.{the_send as file_log_send, the_sync as file_log_sync}
 use Rattle.disk_files.proofs.flushes.Flushes.TheSendSync.{the_sync as flushes_sync}
 use Rattle.disk_files.specs.contracts.blocks.FileBlocks.{the_row as blocks_row, the_type as blocks_type}
 use Rattle.disk_files.specs.contracts.flushes.Flushes.{the_row as flushes_row, the_type as flushes_type}
 use Rattle.disk_files.specs.contracts.named.NamedBlocks.{the_row as named_row, the_type as named_type}
-use Rattle.disk_files.specs.contracts.file_preparer.FilePreparer.{the_row as preparer_row, the_type as preparer_type}
 use Rattle.disk_files.specs.contracts.system.SystemFile.{the_row as system_row}
 use Rattle.disk_files.specs.contracts.system.SystemFileBackingFile.TheImpl.{ghosts as backing}
 use Rattle.disk_files.specs.contracts.system.SystemFileCounted.TheImpl.{ghosts as counted}
 use Rattle.disk_files.specs.declared.backing.BackingFile.{Ghosts as Backing}
 use Rattle.disk_files.specs.declared.backing.Counted.{Ghosts as Counting}
 
-flushes_send : (F : RattleType) (b : Backing F.Denot) (c : Counting F.Denot) → IsSend F → IsSend (flushes_row F b c)
+pub flushes_send : (F : RattleType) (b : Backing F.Denot) (c : Counting F.Denot) → IsSend F → IsSend (flushes_row F b c)
 flushes_send F b c s = recorded_send _ _ _ (flushes_type F b c).to_one (struct_send (shape (flushes_type F b c)) (
   search (sendable, crosses) depth 20,
   (
@@ -112,61 +110,5 @@ named_sync R H r w k h s = recorded_sync _ _ _ (named_type R H r w k h).to_one (
   ),
 ))
 
-pub preparer_send : (R F : RattleType) (b : Backing F.Denot) (c : Counting F.Denot) → IsSend R → IsSend F
-    → IsSend (preparer_row R F b c)
-preparer_send R F b c s t = recorded_send _ _ _ (preparer_type R F b c).to_one (struct_send (shape (preparer_type R F b c)) (
-  search sendable,
-  (
-    search (sendable, crosses) depth 20,
-    (
-      search (sendable, crosses) depth 20,
-      (
-        search (file_log_send, sendable, crosses) depth 20,
-        (
-          search (flushes_send, flushes_sync, sendable, crosses) depth 20,
-          (
-            search (sendable, crosses) depth 20,
-            (
-              search (sendable, crosses) depth 20,
-              (
-                search (backlog_send, sendable, crosses) depth 20,
-                (search (sendable, crosses) depth 20, (search (sendable, crosses) depth 20, tt)),
-              ),
-            ),
-          ),
-        ),
-      ),
-    ),
-  ),
-))
-
-pub preparer_sync : (R F : RattleType) (b : Backing F.Denot) (c : Counting F.Denot) → IsSync R → IsSend F
-    → IsSync (preparer_row R F b c)
-preparer_sync R F b c s t = recorded_sync _ _ _ (preparer_type R F b c).to_one (struct_sync (shape (preparer_type R F b c)) (
-  search sendable,
-  (
-    search (sendable, crosses) depth 20,
-    (
-      search (sendable, crosses) depth 20,
-      (
-        search (file_log_sync, sendable, crosses) depth 20,
-        (
-          search (flushes_send, flushes_sync, sendable, crosses) depth 20,
-          (
-            search (sendable, crosses) depth 20,
-            (
-              search (sendable, crosses) depth 20,
-              (
-                search (backlog_sync, sendable, crosses) depth 20,
-                (search (sendable, crosses) depth 20, (search (sendable, crosses) depth 20, tt)),
-              ),
-            ),
-          ),
-        ),
-      ),
-    ),
-  ),
-))
-
 -- With `sendable` and `crosses`, for search.
-pub ruleset files_cross = (tt, blocks_send, blocks_sync, named_send, named_sync, preparer_send, preparer_sync)
+pub ruleset files_cross = (tt, blocks_send, blocks_sync, named_send, named_sync)

@@ -134,7 +134,7 @@ impl<F: BackingFile> Flushes<F> {
 
     // How many writes of the device of this file have ended, as it has told.
     #[tactic(auto, using(crate::specs::Told::a_look_says))]
-    pub(crate) fn look(&self, node: Node) -> u64
+    pub fn look(&self, node: Node) -> u64
         ensures ended { IsTrue (F.ended result) }
         ensures told { were_told node result }
     {

@@ -4,16 +4,13 @@
 #![tactic(auto)]
 
 mod backing;
-mod backlog;
 mod beside;
 mod blocks;
 mod disk;
 mod fault;
 mod file_device;
 mod file_log;
-mod file_preparer;
 mod flushes;
-mod kernel_limits;
 pub mod laws;
 mod named;
 mod node;
@@ -25,15 +22,12 @@ mod unit_file;
 mod writes;
 
 pub use backing::{BackingFile, Counted};
-pub use backlog::{Backlog, Begun, FlushEnd};
 pub use blocks::{FileBlocks, blocks_in};
 pub use disk::{Disk, DiskLock, open_disk};
 pub use fault::{DiskFault, FileFault, RegistrationsFault};
 pub use file_device::FileDevice;
 pub use file_log::FileLog;
-pub use file_preparer::FilePreparer;
 pub use flushes::{FlushFault, Flushes, LastingFile};
-pub use kernel_limits::{KERNEL_FILES, KernelFiles, KernelLimits};
 pub use named::NamedBlocks;
 pub use opener::FileOpener;
 pub use registrations::{Registrations, open_registrations};

@@ -1,7 +1,7 @@
 //! The thread that writes the lines of a log to its file.
 
 use crate::log::{Log, ROOM, Shared};
-use events::{Event, Stamp, spell};
+use events::{Event, Stamp, put_line};
 use meters::clock;
 use std::alloc::{AllocError, Global};
 use std::fs::File;

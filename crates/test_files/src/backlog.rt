@@ -1,10 +1,11 @@
 //! What was written to a disk and is not flushed: what counts as flushed, who waits for that, and for how long.
 use crate::ends::{fail, must};
 use crate::runs::{clean, folder, path_of, sized};
-use disk_files::{Backlog, FileBlocks, FileLog, FilePreparer, FlushEnd};
+use disk_files::{FileBlocks, FileLog};
 use disk_preparer::{Account, Preparer};
 use event_log::Log;
 use events::Part;
+use file_preparer::{Backlog, FilePreparer, FlushEnd};
 use meters::{Meters, Unflushed};
 use std::alloc::Global;
 use std::fs::File;

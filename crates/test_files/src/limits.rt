@@ -1,7 +1,7 @@
 //! How much the kernel lets programs write, by what its files say, and that these are looked at now and then.
 use crate::ends::must;
 use crate::runs::{clean, folder, path_of};
-use disk_files::{KernelFiles, KernelLimits};
+use file_preparer::{KernelFiles, KernelLimits};
 use std::alloc::Global;
 use std::fs::File;
 use std::io::Write;

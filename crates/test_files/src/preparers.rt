@@ -2,8 +2,9 @@
 use crate::ends::must;
 use crate::runs::{clean, folder, path_of, reads, sized, writes};
 use block_file::Blocks;
-use disk_files::{FileBlocks, FilePreparer, SystemFile, open_disk};
+use disk_files::{FileBlocks, SystemFile, open_disk};
 use disk_preparer::Preparer;
+use file_preparer::FilePreparer;
 use std::alloc::Global;
 use std::fs::File;
 use std::process;

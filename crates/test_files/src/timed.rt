@@ -4,11 +4,12 @@ ghost use Rattle.std.specs.Arc.{arc_value};
 
 use crate::ends::fail;
 use block_file::Opener;
-use deadline::{Deadlined, Watch};
+use deadline::Deadlined;
 use disk_files::FileDevice;
 use disk_preparer::Node;
 use event_log::Log;
 use events::Part;
+use timed_calls::Watch;
 use std::alloc::Global;
 use std::process::Abort;
 use std::sync::{Arc, Wait};

@@ -3,11 +3,12 @@ ghost use Rattle.std.specs.Prelude.{◌≤◌, IfOk, length};
 
 use crate::serving::{Machine, Script};
 use block_file::{KeepOpener, MemBlocks};
-use deadline::{Deadlined, DeadlinedOpener, Watch};
+use deadline::{Deadlined, DeadlinedOpener};
 use disk_preparer::Node;
 use event_log::Log;
 use events::Part;
 use test_memory::{HeldBlocks, Latch, new_unit};
+use timed_calls::Watch;
 use unit_history::NewUnit;
 use std::alloc::Global;
 use std::marker::Brand;

@@ -1,12 +1,9 @@
 //! What answers the requests of a connection.
 
 use crate::answer::{Seen, Wanted, asked_for};
-use crate::as_json::{kept, status};
-use crate::exposition::metrics;
 use crate::html::PAGE;
 use crate::script::SCRIPT;
-use crate::troubles::health;
-use crate::view::ArrayView;
+use array_view::{ArrayView, health, kept, metrics, status};
 use bytes::{BufMut, Bytes};
 use http::{HeaderName, HeaderValue, Request, StatusCode, header};
 use http_server::{Response, Service};

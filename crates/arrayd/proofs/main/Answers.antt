@@ -1,6 +1,6 @@
 use denote.Param.Send.{sendable}
 use Rattle.std.proofs.Crossing.{crosses}
-use Rattle.disk_files.proofs.Sent.{files_cross}
+use Rattle.file_preparer.proofs.Sent.{files_cross}
 use Rattle.arrayd.proofs.main.Goals as goal
 
 -- What goes to threads: no fact of what main has done before is of use, and there are too many of them to look at.

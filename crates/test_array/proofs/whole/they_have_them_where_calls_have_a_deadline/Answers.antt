@@ -1,6 +1,6 @@
 use denote.Param.Send.{sendable}
 use Rattle.std.proofs.Crossing.{crosses}
-use Rattle.disk_files.proofs.Sent.{files_cross}
+use Rattle.file_preparer.proofs.Sent.{files_cross}
 use Rattle.test_array.proofs.whole.they_have_them_where_calls_have_a_deadline.Goals as goal
 
 pub serve_timed-end-requires-send-B : goal.serve_timed-end-requires-send-B

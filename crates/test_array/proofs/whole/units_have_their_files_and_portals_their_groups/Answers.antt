@@ -1,6 +1,6 @@
 use denote.Param.Send.{sendable}
 use Rattle.std.proofs.Crossing.{crosses}
-use Rattle.disk_files.proofs.Sent.{files_cross}
+use Rattle.file_preparer.proofs.Sent.{files_cross}
 use Rattle.test_array.proofs.whole.units_have_their_files_and_portals_their_groups.Goals as goal
 
 pub serve-end-requires-send-B : goal.serve-end-requires-send-B

@@ -1,5 +1,0 @@
-use Rattle.std.specs.Prelude.{◌≡◌}
-use Rattle.deadline.proofs.handing.AskingEnd.is_answered_in_time.Given as goal
-
-abbrev pub invariant-loop : goal.invariant-loop
-invariant-loop g l = l.self.seat.me ≡ l.initial.self.seat.me
