@@ -5,19 +5,23 @@ ghost use Rattle.unit_state.specs.Serials.{IsOpening};
 use aptpl_file::OpenFault;
 use block_file::{Blocks, Opener};
 use command_line::{Fault, MAX_UNITS, Options};
-use disk_files::{Disk, DiskFault, DiskLock, FileBlocks, FileFault, FileLog, FileOpener, NamedBlocks, Registrations, RegistrationsFault, SystemFile, UnitFileFault, UnitName, open_as, open_disk, open_registrations};
+use disk_files::{
+    Disk, DiskFault, DiskLock, FileBlocks, FileFault, FileLog, FileOpener, NamedBlocks,
+    Registrations, RegistrationsFault, SystemFile, UnitFileFault, UnitName, open_as, open_disk,
+    open_registrations,
+};
 use disk_preparer::{OnDisk, Preparer};
 use event_log::Log;
 use events::{Event, Part, Unusable};
 use file_preparer::FilePreparer;
 use scsi_types::Place;
-use unit_history::NewUnit;
-use unit_state::{Unit, laws};
 use std::alloc::Global;
 use std::fs::File;
 use std::rt::Files;
 use std::sync::Wait;
 use std::time::Clock;
+use unit_history::NewUnit;
+use unit_state::{Unit, laws};
 
 /// A unit over a file, with the registration file beside it.
 type FileUnit<R> = Unit<FileBlocks<SystemFile>, NamedBlocks<R>, FileOpener<R>>;

@@ -23,8 +23,6 @@ use portal::{
     start_flushers, start_lanes,
 };
 use scsi_types::Group;
-use unit_history::{NewUnit, Opened};
-use unit_sequence::Namings;
 use std::alloc::Global;
 use std::fs::File;
 use std::io::{BufRead, Write};
@@ -36,6 +34,8 @@ use std::rt::Files;
 use std::sync::{Arc, Mutex, Wait};
 use std::thread::Threads;
 use std::time::Clock;
+use unit_history::{NewUnit, Opened};
+use unit_sequence::Namings;
 
 // By what hosts find the array: the target's name, and where each controller's portals listen; and the log that is told.
 #[derive(Drop)]

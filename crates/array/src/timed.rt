@@ -17,8 +17,6 @@ use events::{Part, Unusable};
 use file_preparer::FilePreparer;
 use reservations::Record;
 use scsi_types::Place;
-use timed_calls::Watch;
-use unit_state::{Unit, laws};
 use std::alloc::Global;
 use std::fs::File;
 use std::io::{BufRead, Write};
@@ -28,6 +26,8 @@ use std::rt::Files;
 use std::sync::{Arc, Wait};
 use std::thread::Threads;
 use std::time::{Clock, Duration};
+use timed_calls::Watch;
+use unit_state::{Unit, laws};
 
 /// What a unit will be over: its disk with what opens it anew and its preparer, its registration file, and the locks of both.
 #[derive(Drop)]

@@ -6,12 +6,12 @@ use crate::lines::{say_moved, text_of};
 use array_view::{ArrayView, Registration, SessionView, UnitView, health, spelled};
 use events::Event;
 use scsi_types::Group;
-use window::{Collector, Seen};
 use std::alloc::Global;
 use std::io::{self, Write};
 use std::sync::{Mutex, Wait};
 use std::thread;
 use std::time::{Clock, Duration};
+use window::{Collector, Seen};
 
 /// So many milliseconds lie between two looks whether a session is over that was ended, and so often is looked.
 const LOOK: u64 = 5;

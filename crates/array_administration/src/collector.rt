@@ -7,12 +7,12 @@ use events::SessionType;
 use meters::{BOUNDS, Point, Seen, UnitHappenings};
 use scsi_types::Group;
 use status::Row;
-use window::{Collector, Seen as Shown};
 use std::alloc::{AllocError, Global};
 use std::net::SocketAddrV4;
 use std::sync::atomic::{AtomicU64, Ordering};
 use std::sync::{Arc, Wait};
 use std::time::{Clock, Duration};
+use window::{Collector, Seen as Shown};
 
 /// What does not change while the array is served, as it is shown.
 #[derive(Drop)]
@@ -143,7 +143,10 @@ fn unit_of(
         failures: array_view::failure_views(alloc, fixed.origin.load(Ordering::Relaxed), happened)?,
         disk_failures: array_view::failures(alloc, &happened.disk)?,
         registration_failures: array_view::failures(alloc, &happened.registrations)?,
-        hung: happened.hung.count,
+        hung: happened
+            .disk_hung
+            .count
+            .wrapping_add(happened.registrations_hung.count),
         oldest_command_micros: oldest,
         unflushed_bytes: happened.unflushed.bytes,
         unflushed_bound_bytes: happened.unflushed.bound,

@@ -9,13 +9,13 @@ use event_log::Log;
 use portal::{Controllers, Server};
 use scsi_types::Group;
 use status::Row;
-use unit_history::Opened;
-use unit_sequence::Namings;
 use std::alloc::Global;
 use std::io::{self, Write};
 use std::net::SocketAddrV4;
 use std::sync::{Arc, Wait};
 use std::time::Clock;
+use unit_history::Opened;
+use unit_sequence::Namings;
 
 // As its console sees it.
 fn operated<'a, R: Wait + Clock, B: Blocks, F: Blocks, O: Opener<B>, N: Namings<Opened>, G: Drop>(

@@ -12,11 +12,11 @@ use failover::{GroupsList, Mover, Moves, NotMoved, bring_up, preferred, take_dow
 use portal::Controllers;
 use scsi_types::Group;
 use status::Row;
+use std::sync::Wait;
+use std::time::Clock;
 use unit_history::Opened;
 use unit_sequence::Namings;
 use unit_state::MoveFault;
-use std::sync::Wait;
-use std::time::Clock;
 
 /// The codes of the access states standby and unavailable (SPC-4, 5.15.2.2).
 const STANDBY: u64 = 2;

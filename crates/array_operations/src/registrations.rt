@@ -5,9 +5,9 @@ use array_view::Registration;
 use block_file::{Blocks, Opener};
 use registrants::{Registrant, Reservation};
 use reservations::Registry;
+use std::alloc::{AllocError, Global};
 use unit_history::Opened;
 use unit_sequence::Namings;
-use std::alloc::{AllocError, Global};
 
 // The type of the reservation, where this registrant holds it (SPC-4, 5.13.9): of types 7 and 8 every registrant does.
 // 0 where it holds none.

@@ -35,12 +35,14 @@ const HUNG: &str = "hung";
 /// What may be wrong with a unit.
 #[derive(Clone, Copy)]
 pub enum Trouble {
-    /// A call on a file of it took longer than the deadline, or a command waits for its disk.
+    /// A call on its disk took longer than the deadline, or a command waits for it.
     Hangs,
     /// A flush of its disk failed.
     FlushesLost,
     /// Another call on its disk failed, and none went well since.
     CallsFailed,
+    /// A call on its registration file took longer than the deadline.
+    SavesHang,
     /// A registration could not be saved, and none was since.
     Unsaved,
     /// A command waits longer for its disk than one should.
@@ -50,10 +52,11 @@ pub enum Trouble {
 }
 
 /// All of them, the worst first.
-const ALL: [Trouble; 6] = [
+const ALL: [Trouble; 7] = [
     Trouble::Hangs,
     Trouble::FlushesLost,
     Trouble::CallsFailed,
+    Trouble::SavesHang,
     Trouble::Unsaved,
     Trouble::Slow,
     Trouble::Grew,
@@ -66,6 +69,7 @@ impl Trouble {
             Trouble::Hangs => "hangs",
             Trouble::FlushesLost => "flushes_lost",
             Trouble::CallsFailed => "calls_failed",
+            Trouble::SavesHang => "registrations_hang",
             Trouble::Unsaved => "registrations_not_saved",
             Trouble::Slow => "slow",
             Trouble::Grew => "length_changed",
@@ -78,6 +82,7 @@ impl Trouble {
             Trouble::Hangs => "hangs",
             Trouble::FlushesLost => "flushes are lost",
             Trouble::CallsFailed => "calls on it fail",
+            Trouble::SavesHang => "well, but its registration file hangs",
             Trouble::Unsaved => "well, but registrations cannot be saved",
             Trouble::Slow => "slow",
             Trouble::Grew => "well, but longer than at the start",
@@ -96,6 +101,10 @@ impl Trouble {
                 it. Mend the disk, `quit`, start; hosts with a journal replay it.",
             ),
             Trouble::CallsFailed => Some(failed_sentence(culprit)),
+            Trouble::SavesHang => Some(
+                "The registration file hangs: no registration is saved until it is back, so no node can be fenced at this unit. Reads \
+                and writes go on.",
+            ),
             Trouble::Unsaved => Some(unsaved_sentence(culprit)),
             Trouble::Slow | Trouble::Grew => None,
         }
@@ -106,12 +115,13 @@ impl Trouble {
         let is_flush = failure.call == FLUSH;
         let is_hung = failure.call == HUNG;
         match self {
-            Trouble::Hangs => is_hung && failure.is_now,
+            Trouble::Hangs => is_hung && failure.is_now && failure.file == DISK,
             Trouble::FlushesLost => is_flush && failure.file == DISK,
             Trouble::CallsFailed => {
                 failure.is_now && failure.file == DISK && !is_flush && !is_hung
             }
-            Trouble::Unsaved => failure.is_now && failure.file == REGISTRATIONS,
+            Trouble::SavesHang => is_hung && failure.is_now && failure.file == REGISTRATIONS,
+            Trouble::Unsaved => failure.is_now && failure.file == REGISTRATIONS && !is_hung,
             Trouble::Slow | Trouble::Grew => false,
         }
     }
@@ -179,9 +189,10 @@ impl Signs<'_> {
     // Whether this is so by what was counted.
     fn show_counted(&self, seen: &UnitHappenings, trouble: Trouble) -> bool {
         match trouble {
-            Trouble::Hangs => seen.hung.is_now,
+            Trouble::Hangs => seen.disk_hung.is_now,
             Trouble::FlushesLost => lost(&seen.disk),
             Trouble::CallsFailed => any_now(&seen.disk, FLUSHES),
+            Trouble::SavesHang => seen.registrations_hung.is_now,
             Trouble::Unsaved => any_now(&seen.registrations, seen.registrations.len()),
             Trouble::Slow => false,
             Trouble::Grew => seen.grew != 0,
@@ -267,8 +278,13 @@ pub fn failure_views(
     let mut views = Vec::new(alloc);
     note_failures(&mut views, origin, DISK, &seen.disk)?;
     note_failures(&mut views, origin, REGISTRATIONS, &seen.registrations)?;
-    if seen.hung.count != 0 {
-        views.push(failure_view(origin, DISK, HUNG, &seen.hung))?;
+    for (file, hung) in [
+        (DISK, &seen.disk_hung),
+        (REGISTRATIONS, &seen.registrations_hung),
+    ] {
+        if hung.count != 0 {
+            views.push(failure_view(origin, file, HUNG, hung))?;
+        }
     }
     Ok(views)
 }

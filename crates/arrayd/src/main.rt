@@ -20,12 +20,12 @@ use events::Event;
 use log_file::LogFile;
 use settings::Settings;
 use std::alloc::Global;
-use std::{env, io};
 use std::env::Env;
 use std::fs::File;
 use std::process::ExitCode;
 use std::rt::Files;
 use std::time::Clock;
+use std::{env, io};
 
 // The program's words, its own name first.
 fn all_words(rt: &(impl Env + AllocGlobal)) -> Result<Vec<String>, Fault> {

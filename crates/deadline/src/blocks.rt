@@ -12,12 +12,12 @@ use crate::request::{DeviceRunner, Request, Wanted};
 use block_file::{Blocks, DeviceFailed, Opener};
 use disk_files::FileDevice;
 use disk_preparer::{BlockMemory, Node, OnDisk};
-use timed_calls::{Asker, Turn, Watch};
 use std::alloc::Global;
 use std::io;
 use std::sync::{Arc, Mutex, Wait};
 use std::thread::Threads;
 use std::time::Clock;
+use timed_calls::{Asker, Turn, Watch};
 
 /// A device whose calls its thread makes. One that does not come back in time has failed, and so does each later one until it has.
 ///

@@ -6,13 +6,13 @@ ghost use Rattle.timed_calls.specs.Back.{had_come_back};
 use crate::ahead::{Ahead, Hint, HintKind, has_edges};
 use crate::preparer_request::{PreparerCall, PreparerRequest, PreparerRunner};
 use disk_preparer::{Account, Beside, BlockMemory, Node, Preparer};
-use timed_calls::{Asker, FOR_REQUESTS, Watch};
 use std::alloc::Global;
 use std::io;
 use std::sync::atomic::{AtomicUsize, Ordering};
 use std::sync::{Arc, Mutex, MutexGuard, Wait};
 use std::thread::Threads;
 use std::time::{Clock, Duration};
+use timed_calls::{Asker, FOR_REQUESTS, Watch};
 
 /// So many calls that fetch blocks are made at a time, and so many flushes.
 const THREADS: usize = 16;

@@ -7,11 +7,11 @@ use crate::ahead::{Ahead, Hint, HintKind};
 use block_file::BLOCK_LENGTH;
 use disk_preparer::{Beside, BlockMemory, Node, Preparer};
 use events::Call;
-use timed_calls::{Asked, Runner, Watch, left};
 use std::alloc::{AllocError, Global};
 use std::marker::{Model, PhantomData};
 use std::sync::{Arc, Wait};
 use std::time::{Clock, Duration};
+use timed_calls::{Asked, Runner, Watch, left};
 
 /// What nobody asked, before or behind an answer, may take this part of the time that a call may take.
 const PART_FOR_OTHERS: u32 = 16;

@@ -7,9 +7,9 @@ use block_file::{BLOCK_LENGTH, Blocks, Opener};
 use disk_files::FileDevice;
 use disk_preparer::Node;
 use events::Call;
-use timed_calls::{Asked, Runner};
 use std::alloc::{AllocError, Global};
 use std::marker::{Model, PhantomData};
+use timed_calls::{Asked, Runner};
 
 /// The most bytes of a run: 2048 blocks.
 const LONGEST: usize = 2048 * BLOCK_LENGTH;
@@ -99,7 +99,10 @@ impl<B: FileDevice, O: Opener<B>> Request<B, O> {
         let mut bytes = self.bytes;
         bytes.clear();
         let has_room = bytes.extend_from_slice(part).is_ok();
-        (Request::asked(serial, Wanted::Write(first), bytes), has_room)
+        (
+            Request::asked(serial, Wanted::Write(first), bytes),
+            has_room,
+        )
     }
 
     /// Asks for this, with these bytes in place of its own, which it gives.

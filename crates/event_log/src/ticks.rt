@@ -3,10 +3,10 @@
 use crate::log::Log;
 use meters::{Meters, STEP};
 use std::alloc::Global;
-use std::{io, thread};
 use std::sync::{Arc, Wait};
 use std::thread::{Builder, JoinHandle, Threads};
 use std::time::{Clock, Duration};
+use std::{io, thread};
 
 /// So many milliseconds lie between two looks.
 const BETWEEN: u64 = 100;

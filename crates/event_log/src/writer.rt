@@ -6,11 +6,11 @@ use meters::clock;
 use std::alloc::{AllocError, Global};
 use std::fs::File;
 use std::io::{self, Write};
-use std::{mem, thread};
-use std::sync::{Arc, Wait};
 use std::sync::atomic::Ordering;
+use std::sync::{Arc, Wait};
 use std::thread::{Builder, JoinHandle, Threads};
 use std::time::{Clock, Duration};
+use std::{mem, thread};
 
 /// What the writer's stack takes.
 const STACK: usize = 256 * 1024;

@@ -27,15 +27,25 @@ pub const CALLS_IN_ORDER: [Call; CALLS] = [
 /// No block.
 const NOWHERE: Place = Place { first: 0, count: 0 };
 
-// What is counted of a unit.
+// Calls on a file that took longer than the deadline, and how many of them have come back.
+#[derive(Drop)]
+struct Hangs {
+    tally: Tally,
+    back: AtomicU64,
+}
+
+// What is counted of a file of a unit: calls that failed, by their kinds, and those that took longer than the deadline.
+#[derive(Drop)]
+struct OfFile {
+    failed: Vec<Tally>,
+    hung: Hangs,
+}
+
+// What is counted of a unit: of its disk and of its registration file; and how often one of them became longer.
 #[derive(Drop)]
 struct OfUnit {
-    // Calls on its disk and on its registration file that failed, by their kinds; and those that took longer than the deadline.
-    disk: Vec<Tally>,
-    registrations: Vec<Tally>,
-    hung: Tally,
-    // How many of the latter have come back.
-    back: AtomicU64,
+    disk: OfFile,
+    registrations: OfFile,
     grew: AtomicU64,
     blocks: AtomicU64,
     unflushed: UnflushedTally,
@@ -55,8 +65,9 @@ pub struct UnitHappenings {
     /// Calls on its disk and on its registration file that failed, in the order of their kinds.
     pub disk: Vec<Failures>,
     pub registrations: Vec<Failures>,
-    /// Calls that took longer than the deadline.
-    pub hung: Failures,
+    /// Those that took longer than the deadline.
+    pub disk_hung: Failures,
+    pub registrations_hung: Failures,
     /// How often a file of it became longer.
     pub grew: u64,
     /// How many blocks its disk has.
@@ -128,38 +139,59 @@ fn seen_of(alloc: Global, tallies: &[Tally]) -> Result<Vec<Failures>, AllocError
     Ok(seen)
 }
 
+impl Hangs {
+    fn none() -> Hangs {
+        Hangs {
+            tally: Tally::none(),
+            back: AtomicU64::new(0),
+        }
+    }
+
+    // A call on the file hangs.
+    fn begin(&self, now: u64) {
+        self.tally.fail(now, NOWHERE, 0);
+    }
+
+    // The file is served again, on which a call had hung: each file tells that once for each time that it told of a hang.
+    fn end(&self, now: u64) {
+        let back = self.back.fetch_add(1, Ordering::Relaxed).wrapping_add(1);
+        self.tally.end(now, back);
+    }
+}
+
+impl OfFile {
+    fn new(alloc: Global) -> Result<OfFile, AllocError> {
+        Ok(OfFile {
+            failed: unfailed(alloc)?,
+            hung: Hangs::none(),
+        })
+    }
+}
+
 impl OfUnit {
     fn new(alloc: Global) -> Result<OfUnit, AllocError> {
         Ok(OfUnit {
-            disk: unfailed(alloc)?,
-            registrations: unfailed(alloc)?,
-            hung: Tally::none(),
-            back: AtomicU64::new(0),
+            disk: OfFile::new(alloc)?,
+            registrations: OfFile::new(alloc)?,
             grew: AtomicU64::new(0),
             blocks: AtomicU64::new(0),
             unflushed: UnflushedTally::none(),
         })
     }
 
-    // Calls on a file of it.
-    fn of(&self, part: Part) -> &[Tally] {
+    // A file of it.
+    fn of(&self, part: Part) -> &OfFile {
         match part {
             Part::Disk => &self.disk,
             Part::Registrations => &self.registrations,
         }
     }
 
-    // A file of it is served again, on which a call had hung: each file tells that once for each time that it told of a hang.
-    fn came_back(&self, now: u64) {
-        let back = self.back.fetch_add(1, Ordering::Relaxed).wrapping_add(1);
-        self.hung.end(now, back);
-    }
-
     // A call on a file of it hangs, or has come back, or a file became longer.
-    fn happens(&self, now: u64, event: &Event<'_>) {
+    fn happens(&self, now: u64, part: Part, event: &Event<'_>) {
         match event {
-            Event::Hung(..) => self.hung.fail(now, NOWHERE, 0),
-            Event::Back(..) => self.came_back(now),
+            Event::Hung(..) => self.of(part).hung.begin(now),
+            Event::Back(..) => self.of(part).hung.end(now),
             _ => raise(&self.grew),
         }
     }
@@ -167,7 +199,7 @@ impl OfUnit {
     // A call that had hung has come back. Of a registration file that was a save that was told as failed, also where it went well.
     fn saves_late(&self, now: u64, part: Part, call: Call) {
         if let (Part::Registrations, Call::Write | Call::Flush) = (part, call)
-            && let Some(tally) = self.registrations.get(place_of_call(Call::Write))
+            && let Some(tally) = self.registrations.failed.get(place_of_call(Call::Write))
         {
             tally.fail(now, NOWHERE, 0);
         }
@@ -175,9 +207,10 @@ impl OfUnit {
 
     fn seen(&self, alloc: Global) -> Result<UnitHappenings, AllocError> {
         Ok(UnitHappenings {
-            disk: seen_of(alloc, &self.disk)?,
-            registrations: seen_of(alloc, &self.registrations)?,
-            hung: self.hung.seen(),
+            disk: seen_of(alloc, &self.disk.failed)?,
+            registrations: seen_of(alloc, &self.registrations.failed)?,
+            disk_hung: self.disk.hung.tally.seen(),
+            registrations_hung: self.registrations.hung.tally.seen(),
             grew: self.grew.load(Ordering::Relaxed),
             blocks: self.blocks.load(Ordering::Relaxed),
             unflushed: self.unflushed.seen(),
@@ -213,6 +246,7 @@ impl Ledger {
         self.units
             .get(usize::from(unit))?
             .of(part)
+            .failed
             .get(place_of_call(call))
     }
 
@@ -235,13 +269,13 @@ impl Ledger {
             }
             Event::Back(unit, part, call, _) => {
                 if let Some(of_unit) = self.units.get(usize::from(*unit)) {
-                    of_unit.happens(now, event);
+                    of_unit.happens(now, *part, event);
                     of_unit.saves_late(now, *part, *call);
                 }
             }
-            Event::Hung(unit, _, _) | Event::Grew(unit, _) => {
+            Event::Hung(unit, part, _) | Event::Grew(unit, part) => {
                 if let Some(of_unit) = self.units.get(usize::from(*unit)) {
-                    of_unit.happens(now, event);
+                    of_unit.happens(now, *part, event);
                 }
             }
             _ => {}
@@ -292,8 +326,8 @@ impl Ledger {
     /// Ends what an administrator has seen, but for flushes, and calls that hang.
     pub(crate) fn acknowledge(&self, now: u64) {
         for of_unit in &self.units {
-            acknowledge(&of_unit.disk, now);
-            acknowledge(&of_unit.registrations, now);
+            acknowledge(&of_unit.disk.failed, now);
+            acknowledge(&of_unit.registrations.failed, now);
         }
     }
 

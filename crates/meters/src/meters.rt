@@ -9,8 +9,8 @@ use crate::visit::Visit;
 use events::{Call, Event, Operation, Part, Place};
 use std::alloc::{AllocError, Global};
 use std::hint::spin_loop;
-use std::sync::{Arc, Mutex, MutexGuard, Wait};
 use std::sync::atomic::{AtomicU64, Ordering};
+use std::sync::{Arc, Mutex, MutexGuard, Wait};
 use std::time::{Clock, Duration};
 
 /// How often is tried to reach what readers may hold.

@@ -23,13 +23,13 @@ use libc::EMFILE;
 use scsi_types::{Group, NoMemory};
 use session::{End, Identity, Watched};
 use std::alloc::{AllocError, Global};
-use std::{io, thread};
 use std::io::ErrorKind;
 use std::net::{Ipv4Addr, Shutdown, SocketAddr, SocketAddrV4, TcpListener, TcpStream};
 use std::os::fd::OwnedFd;
 use std::sync::{Arc, Mutex, Wait};
 use std::thread::{Builder, JoinHandle, Threads};
 use std::time::{Clock, Duration};
+use std::{io, thread};
 
 /// So many seconds may a login take, and be silent.
 const LOGIN_SILENCE: u64 = 30;

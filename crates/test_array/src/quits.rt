@@ -9,15 +9,15 @@ use block_file::{Blocks, FusedBlocks, KeepOpener, MemBlocks, Opener};
 use event_log::Log;
 use portal::Controllers;
 use scsi_types::Group;
-use test_memory::new_unit;
-use unit_history::{NewUnit, Opened};
-use unit_sequence::Namings;
 use std::alloc::Global;
 use std::marker::Brand;
 use std::process::Abort;
 use std::sync::Wait;
 use std::test::Fail;
 use std::time::Clock;
+use test_memory::new_unit;
+use unit_history::{NewUnit, Opened};
+use unit_sequence::Namings;
 
 /// A unit whose device passes one call on, and fails each one after it.
 type Once = NewUnit<FusedBlocks<MemBlocks>, MemBlocks, KeepOpener>;

@@ -12,7 +12,6 @@ use array::{Administration, open, open_files, serve, serve_timed};
 use command_line::{MAX_UNITS, Options};
 use event_log::Log;
 use meters::Meters;
-use test_connections::{Host, filled};
 use std::alloc::Global;
 use std::fs::{self, File};
 use std::io::BufReader;
@@ -22,6 +21,7 @@ use std::rt::Files;
 use std::sync::Arc;
 use std::test::*;
 use std::time::{Clock, Duration};
+use test_connections::{Host, filled};
 
 /// So many seconds a call of a file may take.
 const PATIENCE: u64 = 20;

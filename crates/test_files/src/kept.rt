@@ -5,7 +5,10 @@ use crate::timed::{timed, watch};
 use aptpl_file::RegFile;
 use block_file::{Blocks, KeepOpener, Opener};
 use deadline::{Deadlined, DeadlinedOpener};
-use disk_files::{Disk, DiskLock, FileBlocks, FileDevice, FileOpener, NamedBlocks, Registrations, SystemFile, open_disk, open_registrations};
+use disk_files::{
+    Disk, DiskLock, FileBlocks, FileDevice, FileOpener, NamedBlocks, Registrations, SystemFile,
+    open_disk, open_registrations,
+};
 use reservations::Record;
 use std::alloc::Global;
 use std::fs::{File, Files};

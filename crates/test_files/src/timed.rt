@@ -9,12 +9,12 @@ use disk_files::FileDevice;
 use disk_preparer::Node;
 use event_log::Log;
 use events::Part;
-use timed_calls::Watch;
 use std::alloc::Global;
 use std::process::Abort;
 use std::sync::{Arc, Wait};
 use std::thread::Threads;
 use std::time::{Clock, Duration};
+use timed_calls::Watch;
 
 /// A watch over a disk, of which a call may take so many seconds.
 pub fn watch(rt: &impl Abort, alloc: Global, patience: u64, disk: Node) -> Arc<Watch, Global>

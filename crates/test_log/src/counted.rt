@@ -12,6 +12,8 @@ use std::time::Duration;
 #[derive(Clone, Copy)]
 enum Step {
     Hangs(u8),
+    /// A call on a registration file does.
+    SaveHangs(u8),
     Grows(u8),
     /// A call on a disk fails, on a registration file, with this error.
     Fails(u8, Call),
@@ -34,7 +36,7 @@ enum Step {
 
 use Step::{
     Acknowledged, Fails, FailsToRead, FailsToReadOne, FailsToSave, Flushes, Grows, Hangs, IsBack,
-    Opens, Reads, Saves,
+    Opens, Reads, SaveHangs, Saves,
 };
 
 const NOWHERE: Place = Place { first: 0, count: 0 };
@@ -53,6 +55,7 @@ fn end_all(log: &Log, unit: u8, part: Part, call: Call) {
 fn make(log: &Log, step: Step) {
     match step {
         Hangs(unit) => log.note(&Event::Hung(unit, Part::Disk, Call::Write)),
+        SaveHangs(unit) => log.note(&Event::Hung(unit, Part::Registrations, Call::Read)),
         Grows(unit) => log.note(&Event::Grew(unit, Part::Disk)),
         Fails(unit, call) => tell_failure(log, unit, Part::Disk, call, NOWHERE),
         FailsToSave(unit, call) => tell_failure(log, unit, Part::Registrations, call, NOWHERE),
@@ -107,7 +110,8 @@ fn put_file(
 fn put_unit(text: &mut String, unit: usize, seen: &UnitHappenings) -> Result<(), AllocError> {
     put_file(text, unit, "disk", &seen.disk)?;
     put_file(text, unit, "file", &seen.registrations)?;
-    put(text, unit, "call", "hung", &seen.hung)?;
+    put(text, unit, "disk", "hung", &seen.disk_hung)?;
+    put(text, unit, "file", "hung", &seen.registrations_hung)?;
     let grew = seen.grew;
     if grew != 0 {
         write!(text, "{unit} grew {grew};")?;
@@ -141,10 +145,16 @@ fn seen_behind<R: Wait>(rt: &R, alloc: Global, steps: &[Step]) -> Result<String,
 
 #[test]
 fn what_failed_is_over_by_what_went_well(rt: HostRuntime) -> Result<(), Fail> {
-    let rows: [(&[Step], &str); 21] = [
+    let rows: [(&[Step], &str); 23] = [
         (&[], ""),
         // Of its own unit, and no growth.
-        (&[Hangs(1)], "1 call hung 1 now;"),
+        (&[Hangs(1)], "1 disk hung 1 now;"),
+        // A file that is back is none that hangs, and says nothing of the other.
+        (&[SaveHangs(0)], "0 file hung 1 now;"),
+        (
+            &[Hangs(0), SaveHangs(0), IsBack(0, Call::Read)],
+            "0 disk hung 1 now;0 file hung 1 over;",
+        ),
         (&[Grows(1), Grows(1)], "1 grew 2;"),
         (&[Fails(1, Call::Write)], "1 disk write 1 now;"),
         (&[FailsToSave(0, Call::Write)], "0 file write 1 now;"),
@@ -195,7 +205,7 @@ fn what_failed_is_over_by_what_went_well(rt: HostRuntime) -> Result<(), Fail> {
                 Hangs(0),
                 Acknowledged,
             ],
-            "0 disk read 1 over;0 call hung 1 now;1 file open 1 over;",
+            "0 disk read 1 over;0 disk hung 1 now;1 file open 1 over;",
         ),
     ];
     for (steps, wanted) in &rows {

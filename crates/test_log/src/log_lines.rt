@@ -1,6 +1,9 @@
 //! The lines of the log, as they are to be read.
 use crate::ends::must;
-use events::{Access, Action, By, Call, Cause, Event, Initiator, Part, Path, Place, Reservation, SessionType, Stamp, Stayed, Why, spell};
+use events::{
+    Access, Action, By, Call, Cause, Event, Initiator, Part, Path, Place, Reservation, SessionType,
+    Stamp, Stayed, Why, spell,
+};
 use std::alloc::Global;
 use std::net::{Ipv4Addr, SocketAddrV4};
 use std::test::*;

@@ -8,8 +8,8 @@ use std::io;
 use std::net::{Ipv4Addr, SocketAddrV4};
 use std::process::Abort;
 use std::rt::Files;
-use std::sync::{Arc, Wait};
 use std::sync::atomic::{AtomicBool, AtomicU64, Ordering};
+use std::sync::{Arc, Wait};
 use std::thread::Parker;
 use std::time::Clock;
 

@@ -4,12 +4,12 @@ use array_operations::Operated;
 use block_file::{Blocks, Opener};
 use event_log::Log;
 use portal::{Controllers, Socket, Table};
-use unit_history::Opened;
-use unit_sequence::Namings;
 use std::alloc::Global;
 use std::sync::{Mutex, Wait};
 use std::test::Fail;
 use std::time::Clock;
+use unit_history::Opened;
+use unit_sequence::Namings;
 
 /// What a script asks of an array, but not through its portals.
 pub trait Console {

@@ -7,15 +7,15 @@ use deadline::{Deadlined, DeadlinedOpener};
 use disk_preparer::Node;
 use event_log::Log;
 use events::Part;
-use test_memory::{HeldBlocks, Latch, new_unit};
-use timed_calls::Watch;
-use unit_history::NewUnit;
 use std::alloc::Global;
 use std::marker::Brand;
 use std::sync::{Arc, Wait};
 use std::test::*;
 use std::thread::Threads;
 use std::time::{Clock, Duration};
+use test_memory::{HeldBlocks, Latch, new_unit};
+use timed_calls::Watch;
+use unit_history::NewUnit;
 
 /// So many blocks a unit has, and so many seconds a call of its device may take.
 const BLOCKS: u32 = 2048;

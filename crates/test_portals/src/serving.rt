@@ -14,10 +14,6 @@ use block_file::{Blocks, FusedBlocks, FusedOpener, KeepOpener, Opener};
 use event_log::Log;
 use portal::{Controllers, Logins, Server, SmallStacks, Stop, TargetDevice, listen, start_lanes};
 use scsi_types::Group;
-use test_connections::Host;
-use test_memory::Latch;
-use unit_history::{NewUnit, Opened};
-use unit_sequence::Namings;
 use std::alloc::Global;
 use std::io::Eprint;
 use std::marker::Brand;
@@ -26,6 +22,10 @@ use std::process::Abort;
 use std::sync::{Arc, Mutex, Wait};
 use std::thread::{JoinHandle, Threads};
 use std::time::Clock;
+use test_connections::Host;
+use test_memory::Latch;
+use unit_history::{NewUnit, Opened};
+use unit_sequence::Namings;
 
 /// What the hosts of an array do, of one unit or of two, and where it listens: at this address, and at these ports of its two
 /// controllers. So many connections to each find no thread. Its portals may be hasty: where no connection waits, an accept fails. The

@@ -2,13 +2,13 @@
 use crate::ends::must;
 use crate::serving::{Machine, Script};
 use event_log::{Log, Page, close, start};
-use test_connections::lines_of;
 use std::alloc::Global;
 use std::fs::{self, File, OpenFile};
-use std::{io, thread};
 use std::process::Abort;
 use std::rt::Files;
 use std::time::{Clock, Duration};
+use std::{io, thread};
+use test_connections::lines_of;
 
 /// Where the lines are written.
 const PATH: &str = "told";

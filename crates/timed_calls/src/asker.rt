@@ -7,11 +7,11 @@ use crate::waiting::{Looks, Runner};
 use crate::watch::Watch;
 use events::Call;
 use std::alloc::Global;
-use std::{io, mem};
-use std::sync::{Arc, Wait};
 use std::sync::atomic::Ordering;
+use std::sync::{Arc, Wait};
 use std::thread::{Builder, JoinHandle, Threads};
 use std::time::Clock;
+use std::{io, mem};
 
 /// What the stack of the thread takes.
 const STACK: usize = 256 * 1024;

@@ -8,8 +8,8 @@ use atomic_table::{Play, Refused, Seat, Split, Table, TableRule};
 use events::Call;
 use std::alloc::{AllocError, Global};
 use std::collections::LinkedList;
-use std::sync::{Arc, Wait};
 use std::sync::atomic::{AtomicBool, AtomicU64};
+use std::sync::{Arc, Wait};
 use std::time::Duration;
 
 /// Whose turn it is: the request is asked, and who asked looks for the answer.

@@ -11,7 +11,10 @@ mod waiting;
 mod watch;
 
 pub use asker::{Asker, FOR_REQUESTS, Turn};
-pub use handing::{ANSWERED, ASKED, AWAITED, Asked, AskingEnd, Handing, Handover, Known, LATE, OVER, RESTING, ServingEnd, TURN, ends};
+pub use handing::{
+    ANSWERED, ASKED, AWAITED, Asked, AskingEnd, Handing, Handover, Known, LATE, OVER, RESTING,
+    ServingEnd, TURN, ends,
+};
 pub use spent::Spent;
 pub use waiting::{Looks, Runner, left};
 pub use watch::Watch;

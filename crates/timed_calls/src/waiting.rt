@@ -214,7 +214,9 @@ impl<E: Asked> ServingEnd<E> {
             self.answer(rt, watch, request);
             return;
         }
-        self.handover.begun.store(request.serial(), Ordering::Release);
+        self.handover
+            .begun
+            .store(request.serial(), Ordering::Release);
         let done = runner.run(request);
         let has_more = runner.has_more();
         self.handover.goes_on.store(has_more, Ordering::Release);

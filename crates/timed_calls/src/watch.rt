@@ -5,8 +5,8 @@ ghost use Rattle.timed_calls.specs.Back.{had_come_back};
 use disk_preparer::Node;
 use event_log::Log;
 use events::{Call, Event, Part};
-use std::sync::{Mutex, Wait};
 use std::sync::atomic::{AtomicBool, AtomicU64, Ordering};
+use std::sync::{Mutex, Wait};
 use std::time::{Clock, Duration};
 
 /// For so many bytes that were written and not flushed a flush may take a millisecond more: 1 MiB a second, as a disk has that turns,
