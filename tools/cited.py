@@ -19,11 +19,7 @@ from proved import TOP
 # By the definitions' file: its lemmas, and which files may cite each.
 MAY_CITE = {
     "array_units/specs/Rows": {"a_read_says": ["array_units/proofs/any_unit/Seated/read/Answers.antt"]},
-    "deadline/specs/Back": {
-        "a_look_says": ["deadline/src/watch.rt"],
-        "a_read_behind_a_look_says": ["deadline/src/preparer_errand.rt", "deadline/src/prepared.rt"],
-    },
-    "disk_files/specs/System": {
+        "disk_files/specs/System": {
         "a_read_says": ["disk_files/proofs/system/SystemFileBackingFile/read_at/Answers.antt"],
         "a_write_says": ["disk_files/proofs/system/SystemFileBackingFile/write_at/Answers.antt"],
         "a_write_ends": ["disk_files/proofs/system/SystemFileBackingFile/write_at/Answers.antt"],
@@ -33,10 +29,14 @@ MAY_CITE = {
         "a_flush_of_a_folder_says": ["disk_files/src/system.rt"],
     },
     "disk_files/specs/Told": {"a_tell_says": ["disk_files/src/flushes.rt"], "a_look_says": ["disk_files/src/flushes.rt"]},
-    "disk_preparer/specs/Beside": {"a_read_beside_says": ["deadline/specs/Back.antt", "disk_files/src/file_preparer.rt"]},
+    "disk_preparer/specs/Beside": {"a_read_beside_says": ["file_preparer/src/preparer.rt", "timed_calls/specs/Back.antt"]},
     "portal/specs/Leaving": {"an_end_says": ["portal/src/controllers.rt"]},
     "portal/specs/Silence": {"a_limit_says": ["portal/src/connection.rt"], "no_limit_says": ["portal/src/connection.rt"]},
     "portal/specs/Turns": {"an_attach_says": ["portal/src/target.rt"]},
+    "timed_calls/specs/Back": {
+        "a_look_says": ["timed_calls/src/watch.rt"],
+        "a_read_behind_a_look_says": ["deadline/src/prepared.rt", "deadline/src/preparer_request.rt"],
+    },
 }
 
 # What anybody may cite: that no write has ended is so at first.

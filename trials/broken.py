@@ -35,7 +35,7 @@ BROKEN = {
     "log": Broken(ONE, "crates/portal/src/logged_target.rt", "            self.teller().reset(unit);\n", "", "log.py unit_reset", "unit_reset"),
     "trouble": Broken(ONE, "crates/array/src/served.rt", "options.second_host.unwrap_or(options.host)", "options.host",
                       "trouble.py address_of_each_controller", "WRONG address_of_each_controller: Wrong(\"a discovery"),
-    "window": Broken(OTHER, "crates/event_log/src/counts.rt", "self.conflicts.wrapping_add(1)", "self.conflicts.wrapping_add(2)",
+    "window": Broken(OTHER, "crates/meters/src/counts.rt", "self.conflicts.wrapping_add(1)", "self.conflicts.wrapping_add(2)",
                      "window.py counts", "WRONG counts: Wrong('ends"),
     "window_page": Broken(ONE, "crates/window/src/script.rt", "owner: 'controller ' + unit.owner", "owner: 'controller ' + (3 - unit.owner)",
                           "window_page.py", "WRONG page"),

@@ -12,7 +12,7 @@ from running import PORT, TARGET, Array, Wrong, ended
 
 HOST = ("InitiatorName", "iqn.2000-01.test:host")
 NORMAL = [HOST, ("TargetName", TARGET)]
-# As crates/event_log/specs names them; and one that has no name there.
+# As crates/events/specs names them; and one that has no name there.
 ERRORS = ["ENOENT", "EIO", "ENXIO", "EBADF", "ENOMEM", "EACCES", "EBUSY", "ENODEV", "EINVAL", "ENFILE", "EMFILE", "EFBIG", "ENOSPC",
           "EROFS", "EADDRINUSE", "EADDRNOTAVAIL", "ETIMEDOUT", "ESTALE", "EREMOTEIO", "EDQUOT", "EPROTO"]
 

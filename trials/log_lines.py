@@ -1,5 +1,5 @@
 """The log of an array as a script reads it: each line is looked at, and what it tells is kept. Then the words that a line may have, as
-crates/event_log/specs tells them, and what of them the lines of all cases had.
+crates/events/specs tells them, and what of them the lines of all cases had.
 """
 
 import os
@@ -104,7 +104,7 @@ WORDS = [
 
 
 def specs(name):
-    with open(os.path.join(TOP, "crates", "event_log", "specs", name), encoding="utf-8") as file:
+    with open(os.path.join(TOP, "crates", "events", "specs", name), encoding="utf-8") as file:
         return file.read()
 
 
