@@ -530,6 +530,26 @@ def disk_that_hangs(folder):
             array.quit()
 
 
+@case
+def registration_file_that_hangs(folder):
+    """A save that comes too late is told of the registration file, and not of the disk; then as one that was not saved, until one is."""
+    with Mounted(folder) as place:
+        with Array(place.that_hangs(), more={"ARRAYD_HTTP": f"127.0.0.1:{AT}", "ARRAYD_DEADLINE": "2"}) as array:
+            session = host()
+            session.ready(0)
+            with place.frozen():
+                is_so("a save", end_of(session.reserve_out(0, 6, new_key=5, aptpl=True)), "04 44/00")
+                wrong(0, "registrations_hang")
+                is_so("of the disk", status()["units"][0]["health"], "well, but its registration file hangs")
+                is_so("a read", end_of(session.command(0, [0x28, 0, 0, 0, 0, 0, 0, 0, 1, 0], expected=512)), GOOD)
+            hangs = lambda: any(one["what"] == "registrations_hang" and one["count"] for one in status()["units"][0]["troubles"])
+            is_so("it is back in time", until(lambda: not hangs(), 10), True)
+            wrong(0, "registrations_not_saved")
+            is_so("another", end_of(session.reserve_out(0, 6, new_key=5, aptpl=True)), GOOD)
+            is_so("well again", (get("/health")[0], status()["units"][0]["health"]), (200, "well"))
+            array.quit()
+
+
 # ---- what may be asked, and by how many
 
 @case
