@@ -3,12 +3,14 @@ ghost use Rattle.std.specs.Prelude.{◌≡◌, ◌+◌, ◌<◌, ◌≤◌, [], 
 ghost use Rattle.unit_state.specs.Serials.{IsOpening};
 
 use aptpl_file::OpenFault;
+use beside_disk::{
+    Registrations, RegistrationsFault, UnitFileFault, UnitName, open_as, open_registrations,
+};
 use block_file::{Blocks, Opener};
 use command_line::{Fault, MAX_UNITS, Options};
 use disk_files::{
-    Disk, DiskFault, DiskLock, FileBlocks, FileFault, FileLog, FileOpener, NamedBlocks,
-    Registrations, RegistrationsFault, SystemFile, UnitFileFault, UnitName, open_as, open_disk,
-    open_registrations,
+    Disk, DiskFault, DiskLock, FileBlocks, FileFault, FileLog, FileOpener, NamedBlocks, SystemFile,
+    open_disk,
 };
 use disk_preparer::{OnDisk, Preparer};
 use event_log::Log;

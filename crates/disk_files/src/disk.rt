@@ -19,8 +19,8 @@ pub struct DiskLock {
 }
 
 impl DiskLock {
-    // Locks a file.
-    pub(crate) fn take<R: Files<File = File>>(rt: &R, path: &str) -> Result<DiskLock, DiskFault> {
+    /// Locks the file that has this name.
+    pub fn take<R: Files<File = File>>(rt: &R, path: &str) -> Result<DiskLock, DiskFault> {
         let handle = match File::open(rt, path) {
             Ok(handle) => handle,
             Err(e) => return Err(DiskFault::NotLocked(number_of(&e))),
@@ -40,7 +40,7 @@ impl DiskLock {
     }
 
     /// The file that is locked.
-    pub(crate) fn node(&self) -> Node
+    pub fn node(&self) -> Node
         ensures { result ≡ self.now.node }
     {
         self.node

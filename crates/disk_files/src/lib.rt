@@ -1,10 +1,9 @@
-//! Disks and registration files that are files. What a file of the system holds cannot be said: of its device it is proved
+//! Disks that are files, and the device of a registration file. What a file of the system holds cannot be said: of its device it is proved
 //! that it keeps its number of blocks, that a call fails just where its count of failures rises, and which calls were made of the
 //! file. The device of a file that claims its bytes, as one in memory does, claims its blocks.
 #![tactic(auto)]
 
 mod backing;
-mod beside;
 mod blocks;
 mod disk;
 mod fault;
@@ -15,23 +14,19 @@ pub mod laws;
 mod named;
 mod node;
 mod opener;
-mod registrations;
 mod system;
 mod tally;
-mod unit_file;
 mod writes;
 
 pub use backing::{BackingFile, Counted};
 pub use blocks::{FileBlocks, blocks_in};
 pub use disk::{Disk, DiskLock, open_disk};
-pub use fault::{DiskFault, FileFault, RegistrationsFault};
+pub use fault::{DiskFault, FileFault};
 pub use file_device::FileDevice;
 pub use file_log::FileLog;
 pub use flushes::{FlushFault, Flushes, LastingFile};
 pub use named::NamedBlocks;
 pub use opener::FileOpener;
-pub use registrations::{Registrations, open_registrations};
-pub use system::{SystemFile, give_name, make_name_last};
+pub use system::{SystemFile, give_name, make_name_last, number_of};
 pub use tally::Tally;
-pub use unit_file::{UnitFileFault, UnitName, open_as};
 pub use writes::Writes;

@@ -35,7 +35,7 @@ pub struct NamedBlocks<R: Files<File = File> + Drop> {
 
 impl<R: Files<File = File> + Drop> NamedBlocks<R> {
     /// Those of a file that has this name.
-    pub(crate) fn new(
+    pub fn new(
         rt: R,
         alloc: Global,
         path: &str,

@@ -16,7 +16,7 @@ use std::os::unix::fs::FileExt;
 use std::rt::Files;
 
 /// The number of an error of the system, 0 where it told none, as where fewer bytes came than were asked for.
-pub(crate) fn number_of(e: &io::Error) -> u32 {
+pub fn number_of(e: &io::Error) -> u32 {
     match e.raw_os_error() {
         Some(number) => u32::try_from(number).unwrap_or(0),
         None => 0,

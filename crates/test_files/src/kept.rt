@@ -3,11 +3,11 @@ use crate::calls::{is_done, is_saved, said, told};
 use crate::rows::Row;
 use crate::timed::{timed, watch};
 use aptpl_file::RegFile;
+use beside_disk::{Registrations, open_registrations};
 use block_file::{Blocks, KeepOpener, Opener};
 use deadline::{Deadlined, DeadlinedOpener};
 use disk_files::{
-    Disk, DiskLock, FileBlocks, FileDevice, FileOpener, NamedBlocks, Registrations, SystemFile,
-    open_disk, open_registrations,
+    Disk, DiskLock, FileBlocks, FileDevice, FileOpener, NamedBlocks, SystemFile, open_disk,
 };
 use reservations::Record;
 use std::alloc::Global;

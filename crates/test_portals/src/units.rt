@@ -2,8 +2,9 @@
 ghost use Rattle.std.specs.Prelude.{◌≤◌, IfOk, length};
 
 use aptpl_file::RegFile;
+use beside_disk::open_registrations;
 use block_file::{Blocks, FusedOpener, KeepOpener, MemBlocks, Opener};
-use disk_files::{FileBlocks, SystemFile, open_registrations};
+use disk_files::{FileBlocks, SystemFile};
 use scsi_types::Place;
 use std::alloc::Global;
 use std::fs::File;

@@ -1,6 +1,6 @@
 //! Files that lie beside a disk: how they are begun.
 
-use crate::system::number_of;
+use disk_files::number_of;
 use std::alloc::{AllocError, Global};
 use std::fs::{File, OpenFile};
 use std::io::ErrorKind;

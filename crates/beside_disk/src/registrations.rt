@@ -2,14 +2,14 @@
 ghost use Rattle.std.specs.Prelude.{◌≡◌, IfOk, OnOk};
 ghost use Rattle.disk_files.specs.System.{is_named, name_lasts};
 
-use crate::beside::{NotBegun, begun, folder_of, joined};
-use crate::system::{give_name, make_name_last, number_of};
-use crate::{
-    DiskFault, DiskLock, FileBlocks, FileFault, FileLog, NamedBlocks, RegistrationsFault,
-    SystemFile,
-};
+use crate::begun::{NotBegun, begun, folder_of, joined};
+use crate::fault::RegistrationsFault;
 use aptpl_file::{FILE_BLOCKS, OpenFault, RegFile};
 use block_file::{BLOCK_LENGTH, Blocks};
+use disk_files::{
+    DiskFault, DiskLock, FileBlocks, FileFault, FileLog, NamedBlocks, SystemFile, give_name,
+    make_name_last, number_of,
+};
 use registrants::Record;
 use std::alloc::Global;
 use std::fs::{self, File};

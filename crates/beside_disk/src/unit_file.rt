@@ -1,9 +1,8 @@
 //! As which unit a disk was served, which a file beside it says. Whoever changes the order of the words would else give hosts another
 //! disk under the identity that they know.
 
-use crate::FileFault;
-use crate::beside::{NotBegun, begun, folder_of, joined};
-use crate::system::{SystemFile, give_name, make_name_last, number_of};
+use crate::begun::{NotBegun, begun, folder_of, joined};
+use disk_files::{FileFault, SystemFile, give_name, make_name_last, number_of};
 use std::alloc::{AllocError, Global};
 use std::fs::{self, File};
 use std::io::{self, Read, Write};
