@@ -1,8 +1,8 @@
 //! What is measured, in lines.
 
-use crate::headings::{Metric, OF_ARRAY, OF_ROUTES, OF_UNITS, OfArray, OfPath, OfUnit};
 use crate::line::Amount::{Count, Micros};
 use crate::line::{Amount, Label, put_help, put_sample, put_type};
+use crate::metric_names::{Metric, OF_ARRAY, OF_ROUTES, OF_UNITS, OfArray, OfPath, OfUnit};
 use crate::view::{ArrayView, Commands, Controller, NamedCount, PathView, SessionView, UnitView};
 use std::alloc::{AllocError, Global};
 

@@ -3,10 +3,10 @@
 
 mod as_json;
 mod exposition;
-mod headings;
 pub mod laws;
 mod line;
 mod made;
+mod metric_names;
 mod troubles;
 mod view;
 
