@@ -1,11 +1,10 @@
 //! The registrations of a unit, as the window and the control socket show them.
 
 use array_units::Units;
-use block_file::{Blocks, Opener};
 use registrants::{Registrant, Reservation};
 use reservations::Registry;
 use std::alloc::{AllocError, Global};
-use unit_history::Opened;
+use unit_history::{Devices, Opened};
 use unit_sequence::Namings;
 use window::Registration;
 
@@ -55,9 +54,9 @@ fn all_of(alloc: Global, registry: &Registry) -> Result<Vec<Registration>, Alloc
 }
 
 /// Those of the unit at a place. None: there is no such unit, a command has the unit for long, or there was no memory.
-pub(crate) fn registrations<B: Blocks, F: Blocks, O: Opener<B>, N: Namings<Opened>>(
+pub(crate) fn registrations<D: Devices, N: Namings<Opened>>(
     alloc: Global,
-    units: &Units<B, F, O, N>,
+    units: &Units<D, N>,
     place: usize,
 ) -> Option<Vec<Registration>> {
     if place >= units.count() {
