@@ -4,7 +4,6 @@ ghost use Rattle.std.specs.Prelude.{◌≡◌, []};
 use access_states::Change;
 use array_administration::Operations;
 use array_units::Units;
-use block_file::{Blocks, Opener};
 use command_line::MAX_UNITS;
 use event_log::Log;
 use events::{Access, By, Event, Stayed};
@@ -14,7 +13,7 @@ use scsi_types::Group;
 use status::Row;
 use std::sync::Wait;
 use std::time::Clock;
-use unit_history::Opened;
+use unit_history::{Devices, Opened};
 use unit_sequence::Namings;
 use unit_state::MoveFault;
 
@@ -25,9 +24,9 @@ const UNAVAILABLE: u64 = 3;
 
 /// Both controllers, as the console sees them.
 #[derive(Drop)]
-pub struct Operated<'a, R: Wait + Clock, B: Blocks, F: Blocks, O: Opener<B>, N: Namings<Opened>> {
+pub struct Operated<'a, R: Wait + Clock, D: Devices, N: Namings<Opened>> {
     pub rt: &'a R,
-    pub controllers: &'a Controllers<B, F, O, N>,
+    pub controllers: &'a Controllers<D, N>,
     /// What happens is told to it.
     pub log: &'a Log,
 }
@@ -130,9 +129,9 @@ fn end_of(end: Result<(), NotMoved>) -> Result<(), usize> {
 }
 
 /// The row of the unit at a place, where there is one.
-pub(crate) fn row_at<R: Wait, B: Blocks, F: Blocks, O: Opener<B>, N: Namings<Opened>>(
+pub(crate) fn row_at<R: Wait, D: Devices, N: Namings<Opened>>(
     rt: &R,
-    units: &Units<B, F, O, N>,
+    units: &Units<D, N>,
     place: usize,
 ) -> Option<Row> {
     if place >= units.count() {
@@ -141,14 +140,7 @@ pub(crate) fn row_at<R: Wait, B: Blocks, F: Blocks, O: Opener<B>, N: Namings<Ope
     Some(units.read(rt, place))
 }
 
-impl<R: Wait + Clock, B: Blocks, F: Blocks, O: Opener<B>, N: Namings<Opened>> Operated<
-    '_,
-    R,
-    B,
-    F,
-    O,
-    N,
-> {
+impl<R: Wait + Clock, D: Devices, N: Namings<Opened>> Operated<'_, R, D, N> {
     // Tells of the end of the array: once, where an administrator has ended it by the control socket.
     fn tell_end(&self, event: &Event<'_>) {
         if !self.log.has_quit() {
@@ -157,7 +149,7 @@ impl<R: Wait + Clock, B: Blocks, F: Blocks, O: Opener<B>, N: Namings<Opened>> Op
     }
 
     // One who moves the units, and tells of it.
-    fn mover(&self) -> ToldMoves<'_, R, Mover<'_, B, F, O, N>>
+    fn mover(&self) -> ToldMoves<'_, R, Mover<'_, D, N>>
         ensures { result.mover.asked ≡ [] }
     {
         ToldMoves {
@@ -182,8 +174,7 @@ impl<R: Wait + Clock, B: Blocks, F: Blocks, O: Opener<B>, N: Namings<Opened>> Op
     }
 }
 
-impl<R: Wait + Clock, B: Blocks, F: Blocks, O: Opener<B>, N: Namings<Opened>> Operations
-    for Operated<'_, R, B, F, O, N> {
+impl<R: Wait + Clock, D: Devices, N: Namings<Opened>> Operations for Operated<'_, R, D, N> {
     fn status(&mut self, unit: u8) -> Option<Row> {
         row_at(self.rt, self.controllers.units(), usize::from(unit))
     }
