@@ -4,7 +4,7 @@ ghost use Rattle.std.specs.String.{string_bytes};
 ghost use Rattle.events.specs.Text.{text_of};
 
 use crate::strangers::Strangers;
-use events::{Call, Event, Part, Place, SessionType, Stamp, spell};
+use events::{By, Call, Event, Part, Place, SessionType, Stamp, spell};
 use meters::{Meters, UnflushedTally};
 use std::alloc::{AllocError, Global};
 use std::hint::spin_loop;
@@ -41,6 +41,8 @@ pub(crate) struct Waiting {
     pub(crate) strangers: Strangers,
     pub(crate) refused: Strangers,
     pub(crate) discoveries: Strangers,
+    // What hosts do that are in.
+    pub(crate) hosts: Strangers,
 }
 
 /// What all hands that hold a log share.
@@ -49,7 +51,7 @@ pub(crate) struct Shared {
     pub(crate) waiting: Mutex<Waiting>,
     /// How many lines were dropped and not told so yet.
     pub(crate) dropped: AtomicU64,
-    /// 1: the last lines could not be written.
+    /// 1: the last lines could not be written, or not where the name of the log leads now.
     pub(crate) failing: AtomicU64,
     /// When the writer began to write those that it writes now, in microseconds of the clock that never goes back; 0: it writes none.
     pub(crate) since: AtomicU64,
@@ -68,10 +70,11 @@ impl Waiting {
             strangers: Strangers::none(),
             refused: Strangers::none(),
             discoveries: Strangers::none(),
+            hosts: Strangers::of_hosts(),
         })
     }
 
-    // Keeps the line of an event, or counts it among those of which one line tells. False: there was no room for it.
+    // Keeps the line of an event, or counts it among those of which one line tells how many they are. False: there was no room for it.
     fn take(&mut self, now: Duration, event: &Event<'_>) -> bool {
         let is_told = match event {
             Event::ConnectionEnded(..) => self.strangers.is_told(now.as_secs()),
@@ -80,6 +83,14 @@ impl Waiting {
             | Event::SessionEnded(_, _, _, SessionType::Discovery, _) => {
                 self.discoveries.is_told(now.as_secs())
             }
+            Event::LoggedIn(..)
+            | Event::SessionEnded(..)
+            | Event::GroupsSet(_, _, _, _, By::Session(_))
+            | Event::NotMoved(_, _, _, By::Session(_))
+            | Event::Reserved(..)
+            | Event::Reset(..)
+            | Event::CommandFailed(..)
+            | Event::Busy(..) => self.hosts.is_told(now.as_secs()),
             _ => true,
         };
         !is_told || self.keep(event)

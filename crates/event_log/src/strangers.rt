@@ -1,5 +1,6 @@
 //! What whoever reaches a portal may make as many of as he likes, connections that end without a login, logins that are refused, or
-//! discovery sessions: of a spell, a line tells each of the first ones, and one more how many others there were.
+//! discovery sessions: of a spell, a line tells each of the first ones, and one more how many others there were. What hosts do that are in
+//! is told likewise, but for more of it.
 
 /// So many seconds a spell lasts.
 const SPELL: u64 = 60;
@@ -7,9 +8,14 @@ const SPELL: u64 = 60;
 /// Of so many such ends of a spell a line each tells.
 const LINES: u64 = 32;
 
+/// Of so many deeds of hosts that are in.
+const LINES_OF_HOSTS: u64 = 1000;
+
 /// The ends of the spell that lasts.
 #[derive(Drop)]
 pub struct Strangers {
+    // Of so many a line each tells.
+    most: u64,
     // When it began, in seconds; how many lines tell of it, and of how many ends none does.
     began: u64,
     told: u64,
@@ -17,13 +23,24 @@ pub struct Strangers {
 }
 
 impl Strangers {
-    /// Of no spell.
-    pub const fn none() -> Strangers {
+    // Of no spell; of so many of each a line tells.
+    const fn up_to(most: u64) -> Strangers {
         Strangers {
+            most,
             began: 0,
             told: 0,
             untold: 0,
         }
+    }
+
+    /// Of no spell.
+    pub const fn none() -> Strangers {
+        Strangers::up_to(LINES)
+    }
+
+    /// The same, of what hosts do that are in.
+    pub const fn of_hosts() -> Strangers {
+        Strangers::up_to(LINES_OF_HOSTS)
     }
 
     /// Whether the spell is over at this second, also where the clock was set back.
@@ -37,7 +54,7 @@ impl Strangers {
             self.began = now;
             self.told = 0;
         }
-        if self.told < LINES {
+        if self.told < self.most {
             self.told = self.told.saturating_add(1);
             return true;
         }

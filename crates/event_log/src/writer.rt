@@ -37,11 +37,13 @@ struct Writer {
 }
 
 impl Writer {
-    // Opens the file anew, so that one that was given another name is left; where it cannot be, the one of before stays.
-    fn open<P: Page>(&mut self, page: &P) {
-        if let Some(file) = page.open() {
-            self.file = Some(file);
-        }
+    // Opens the file anew, so that one that was given another name is left. False: it cannot be, and the one of before stays.
+    fn open<P: Page>(&mut self, page: &P) -> bool {
+        let Some(file) = page.open() else {
+            return false;
+        };
+        self.file = Some(file);
+        true
     }
 
     // Writes the lines. False: they were not, or not all.
@@ -79,14 +81,15 @@ fn take<R: Wait + Clock>(rt: &R, shared: &Shared, lines: &mut String, is_last: b
     let since = rt.since_1970().unwrap_or(Duration::ZERO);
     let now = Stamp::of(since);
     lines.clear();
-    let (untold, ended, refused, discoveries) = {
+    let (untold, hosts, ended, refused, discoveries) = {
         let mut waiting = shared.waiting.lock(rt);
         let untold = waiting.give_time(now);
         mem::swap(&mut waiting.lines, lines);
+        let hosts = waiting.hosts.sum(since.as_secs(), is_last);
         let ended = waiting.strangers.sum(since.as_secs(), is_last);
         let refused = waiting.refused.sum(since.as_secs(), is_last);
         let discoveries = waiting.discoveries.sum(since.as_secs(), is_last);
-        (untold, ended, refused, discoveries)
+        (untold, hosts, ended, refused, discoveries)
     };
     put_sum(lines, now, ended, &Event::ConnectionsEnded(ended));
     put_sum(lines, now, refused, &Event::LoginsRefused(refused));
@@ -94,7 +97,8 @@ fn take<R: Wait + Clock>(rt: &R, shared: &Shared, lines: &mut String, is_last: b
     let dropped = shared
         .dropped
         .swap(0, Ordering::SeqCst)
-        .saturating_add(untold);
+        .saturating_add(untold)
+        .saturating_add(hosts);
     if dropped != 0 {
         let _ = put_line(lines, now, &Event::Dropped(dropped));
     }
@@ -103,11 +107,11 @@ fn take<R: Wait + Clock>(rt: &R, shared: &Shared, lines: &mut String, is_last: b
 
 // Writes the lines that were taken, of which the last tells of so many that were dropped. Where they cannot be written, they are too.
 fn write_taken<P: Page>(shared: &Shared, page: &P, writer: &mut Writer, dropped: u64) {
-    writer.open(page);
+    let is_opened = writer.open(page);
     let is_written = writer.write();
     shared
         .failing
-        .store(u64::from(!is_written), Ordering::SeqCst);
+        .store(u64::from(!(is_opened && is_written)), Ordering::SeqCst);
     if !is_written {
         let told = if dropped == 0 { 0 } else { 1 };
         let lost = lines_in(writer.lines.as_str()).saturating_sub(told);

@@ -6,6 +6,12 @@ use std::sync::atomic::{AtomicU64, Ordering};
 /// How often is tried to say that failures are over, where others say so at the same time.
 const TRIES: u32 = 16;
 
+/// So many runs of blocks that could not be read are known apart.
+const RUNS: usize = 8;
+
+/// What the first block of a run is multiplied by where their count stands beside it.
+const COUNTS: u64 = 1 << 32;
+
 /// What was seen of calls of one kind that failed. Times are microseconds of the clock that never goes back.
 #[derive(Clone, Copy)]
 pub struct Failures {
@@ -32,9 +38,32 @@ pub(crate) struct Tally {
     last: AtomicU64,
     ended: AtomicU64,
     error: AtomicU64,
-    // The first block of those that are not over, and the one behind them all.
+    // The blocks of those that are not over, a run at a place: the first one times 2^32, and how many; 0: none.
+    runs: [AtomicU64; RUNS],
+    // Of those for which there is no place, the first block, and the one behind them all; 0: there are none.
     first: AtomicU64,
     behind: AtomicU64,
+}
+
+// What is left of the blocks from one on to another, those from `from` on to `to` being read.
+fn left_of(first: u64, behind: u64, from: u64, to: u64) -> (u64, u64) {
+    if from <= first {
+        (first.max(to).min(behind), behind)
+    } else if to >= behind {
+        (first, behind.min(from))
+    } else {
+        (first, behind)
+    }
+}
+
+// What is left of a run, as it stands at its place.
+fn run_left(run: u64, from: u64, to: u64) -> u64 {
+    let (first, count) = (run / COUNTS, run % COUNTS);
+    let (first, behind) = left_of(first, first.saturating_add(count), from, to);
+    match behind.saturating_sub(first) {
+        0 => 0,
+        count => first.wrapping_mul(COUNTS) | count,
+    }
 }
 
 impl Tally {
@@ -47,23 +76,55 @@ impl Tally {
             last: AtomicU64::new(0),
             ended: AtomicU64::new(0),
             error: AtomicU64::new(0),
-            first: AtomicU64::new(0),
+            runs: [
+                AtomicU64::new(0),
+                AtomicU64::new(0),
+                AtomicU64::new(0),
+                AtomicU64::new(0),
+                AtomicU64::new(0),
+                AtomicU64::new(0),
+                AtomicU64::new(0),
+                AtomicU64::new(0),
+            ],
+            first: AtomicU64::new(u64::MAX),
             behind: AtomicU64::new(0),
         }
     }
 
+    // Knows of no block.
+    fn forget(&self) {
+        for run in &self.runs {
+            run.store(0, Ordering::Relaxed);
+        }
+        self.first.store(u64::MAX, Ordering::Relaxed);
+        self.behind.store(0, Ordering::Relaxed);
+    }
+
+    // Notes the blocks of a call: at a place where they stand already, or where nothing does; else among those that have none.
+    fn note(&self, place: Place) {
+        let first = u64::from(place.first);
+        let count = u64::from(place.count.max(1));
+        let noted = first.wrapping_mul(COUNTS) | count;
+        for run in &self.runs {
+            match run.compare_exchange(0, noted, Ordering::AcqRel, Ordering::Acquire) {
+                Ok(_) => return,
+                Err(there) if there == noted => return,
+                Err(_) => {}
+            }
+        }
+        let _ = self.first.fetch_min(first, Ordering::Relaxed);
+        let _ = self
+            .behind
+            .fetch_max(first.saturating_add(count), Ordering::Relaxed);
+    }
+
     /// A call failed at this time, at these blocks, with this error.
     pub(crate) fn fail(&self, now: u64, place: Place, error: u32) {
-        let first = u64::from(place.first);
-        let behind = first.saturating_add(u64::from(place.count));
-        if self.is_now() {
-            let _ = self.first.fetch_min(first, Ordering::Relaxed);
-            let _ = self.behind.fetch_max(behind, Ordering::Relaxed);
-        } else {
+        if !self.is_now() {
             self.began.store(now, Ordering::Relaxed);
-            self.first.store(first, Ordering::Relaxed);
-            self.behind.store(behind, Ordering::Relaxed);
+            self.forget();
         }
+        self.note(place);
         self.last.store(now, Ordering::Relaxed);
         self.error.store(u64::from(error), Ordering::Relaxed);
         let _ = self.count.fetch_add(1, Ordering::Release);
@@ -79,12 +140,38 @@ impl Tally {
         self.over.load(Ordering::Acquire) < self.count()
     }
 
-    /// Whether all blocks of those that are not over are among these.
-    pub(crate) fn lies_in(&self, place: Place) -> bool {
-        let first = self.first.load(Ordering::Relaxed);
-        let behind = self.behind.load(Ordering::Relaxed);
+    // What of the blocks at each place is left, these being read: whether nothing is.
+    fn runs_are_read(&self, from: u64, to: u64) -> bool {
+        let mut are_read = true;
+        for run in &self.runs {
+            let now = run.load(Ordering::Acquire);
+            let left = run_left(now, from, to);
+            let swapped = run.compare_exchange(now, left, Ordering::AcqRel, Ordering::Acquire);
+            are_read = are_read && left == 0 && swapped.is_ok();
+        }
+        are_read
+    }
+
+    // Whether these blocks, which were read, are all for which there was no place.
+    fn others_are_read(&self, from: u64, to: u64) -> bool {
+        let behind = self.behind.load(Ordering::Acquire);
+        if behind == 0 {
+            return true;
+        }
+        from <= self.first.load(Ordering::Acquire)
+            && behind <= to
+            && self
+                .behind
+                .compare_exchange(behind, 0, Ordering::AcqRel, Ordering::Acquire)
+                .is_ok()
+    }
+
+    /// These blocks were read: whether all blocks of those that are not over were by now.
+    pub(crate) fn are_read(&self, place: Place) -> bool {
         let from = u64::from(place.first);
-        from <= first && behind <= from.saturating_add(u64::from(place.count))
+        let to = from.saturating_add(u64::from(place.count));
+        let are_read = self.runs_are_read(from, to);
+        self.others_are_read(from, to) && are_read
     }
 
     /// At this time the first so many of them are over.

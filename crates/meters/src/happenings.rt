@@ -311,13 +311,13 @@ impl Ledger {
         }
     }
 
-    /// These blocks were read: where all blocks of the reads that failed are among them, that is over.
+    /// These blocks were read: where all blocks of the reads that failed were by now, that is over.
     pub(crate) fn read(&self, now: u64, unit: u8, part: Part, place: Place) {
         if let Some(tally) = self.tally(unit, part, Call::Read)
             && tally.is_now()
         {
             let count = tally.count();
-            if tally.lies_in(place) {
+            if tally.are_read(place) {
                 tally.end(now, count);
             }
         }

@@ -145,7 +145,7 @@ fn seen_behind<R: Wait>(rt: &R, alloc: Global, steps: &[Step]) -> Result<String,
 
 #[test]
 fn what_failed_is_over_by_what_went_well(rt: HostRuntime) -> Result<(), Fail> {
-    let rows: [(&[Step], &str); 23] = [
+    let rows: [(&[Step], &str); 25] = [
         (&[], ""),
         // Of its own unit, and no growth.
         (&[Hangs(1)], "1 disk hung 1 now;"),
@@ -191,6 +191,26 @@ fn what_failed_is_over_by_what_went_well(rt: HostRuntime) -> Result<(), Fail> {
         ),
         (
             &[FailsToRead(0), FailsToReadOne(0, 40), Reads(0, 8, 33)],
+            "0 disk read 2 over;",
+        ),
+        // However far they lie from each other, and however small the reads are.
+        (
+            &[
+                FailsToRead(0),
+                FailsToReadOne(0, 900000),
+                Reads(0, 900000, 1),
+                Reads(0, 10, 2),
+            ],
+            "0 disk read 2 now;",
+        ),
+        (
+            &[
+                FailsToRead(0),
+                FailsToReadOne(0, 900000),
+                Reads(0, 900000, 1),
+                Reads(0, 10, 2),
+                Reads(0, 8, 2),
+            ],
             "0 disk read 2 over;",
         ),
         // A save that came too late was told as failed, however it ended.

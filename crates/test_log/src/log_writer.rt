@@ -145,8 +145,8 @@ fn path() -> Path {
     }
 }
 
-// Tells of so many connections that end without a login, and of as many logins that are refused, in less than a minute: what is written
-// once the log ends.
+// Tells of so many connections that end without a login, of as many logins that are refused, and of a hundred resets more, in less than a
+// minute: what is written once the log ends.
 fn written_of<R: Files<File = File> + Wait + Clock + Abort>(
     rt: &R,
     alloc: Global,
@@ -165,6 +165,10 @@ fn written_of<R: Files<File = File> + Wait + Clock + Abort>(
         let ended = Event::SessionEnded(who, path(), 1, discovery, Why::Logout);
         log.tell(rt, &ended);
     }
+    let who = Initiator { name: b"", isid: 0 };
+    for _ in 0..ends.saturating_add(100) {
+        log.tell(rt, &Event::Reset(0, who, 1));
+    }
     log.tell(rt, &Event::Stopping);
     close(rt, log);
     let file = File::open(rt, OTHER).expect(rt, "lines");
@@ -173,7 +177,7 @@ fn written_of<R: Files<File = File> + Wait + Clock + Abort>(
     text
 }
 
-// What strangers do fills no disk.
+// What strangers do fills no disk, nor what hosts do that are in.
 #[test]
 fn what_strangers_do_takes_few_lines(rt: HostRuntime) {
     let alloc = rt.alloc();
@@ -193,7 +197,9 @@ fn what_strangers_do_takes_few_lines(rt: HostRuntime) {
     let begun = count_of(&text, " tsih=1 type=discovery");
     let ended = count_of(&text, " type=discovery why=logout");
     let others = count_of(&text, " event=discoveries count=1968");
-    let all = text.lines().count();
-    let seen = (begun, ended, others, all);
-    must(&rt, seen == (16, 16, 1, 100), "lines", &seen);
+    let seen = (begun, ended, others);
+    must(&rt, seen == (16, 16, 1), "lines", &seen);
+    let dropped = count_of(&text, " event=dropped lines=100");
+    let seen = (dropped, text.lines().count());
+    must(&rt, seen == (1, 1101), "lines", &seen);
 }
