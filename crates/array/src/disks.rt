@@ -4,7 +4,8 @@ ghost use Rattle.unit_state.specs.Serials.{IsOpening};
 
 use aptpl_file::OpenFault;
 use beside_disk::{
-    Registrations, RegistrationsFault, UnitFileFault, UnitName, open_as, open_registrations,
+    Registrations, RegistrationsFault, UnitFileFault, UnitName, look_as, open_as,
+    open_registrations,
 };
 use block_file::Blocks;
 use command_line::{Fault, MAX_UNITS, Options};
@@ -66,8 +67,7 @@ where
     ) -> Result<(), Fault>
         requires opening { IsOpening unit.control }
         requires disk { D.Disk.OnDisk.disk unit.device ≡ P.disk preparer }
-        requires disks {
-            map (λ new. D.Disk.OnDisk.disk new.unit.device) self.old.units.items ≡ map P.disk self.old.preparers.items }
+        requires disks { map (λ new. D.Disk.OnDisk.disk new.unit.device) self.old.units.items ≡ map P.disk self.old.preparers.items }
         ensures disks { OnOk result (
             map (λ new. D.Disk.OnDisk.disk new.unit.device) self.new.units.items ≡ map P.disk self.new.preparers.items) }
         ensures count { OnOk result (length self.new.units.items ≡ length self.old.units.items + 1) }
@@ -200,16 +200,24 @@ pub(crate) fn open_preparer<R: Files<File = File> + Clock + Wait + Clone + Drop>
     Ok(FilePreparer::open(mine, alloc, path, blocks, Some(file_log)))
 }
 
-// Sees to it that the disk of a unit stays the one that it is.
-fn keep_its_unit<R: Files<File = File>>(
-    rt: &R,
+// The unit of a place, as the file beside its disk names it.
+fn name_of(place: Place) -> UnitName {
+    UnitName {
+        unit: place.unit,
+        array: place.array,
+    }
+}
+
+// What came of a look at the file that says which unit a disk is; the log is told where it is another one.
+fn told_unit(
     alloc: Global,
     log: &Log,
     place: Place,
     path: &str,
+    found: Result<(), UnitFileFault>,
 ) -> Result<(), Fault> {
     let (unit, array) = (place.unit, place.array);
-    match open_as(rt, alloc, path, UnitName { unit, array }) {
+    match found {
         Ok(()) => Ok(()),
         Err(UnitFileFault::NoMemory) => Err(Fault::NoMemory),
         Err(UnitFileFault::Other(known)) => {
@@ -221,6 +229,24 @@ fn keep_its_unit<R: Files<File = File>>(
         Err(UnitFileFault::NamesNone) => Err(unnamed(log, unit, path, 0)),
         Err(UnitFileFault::NotRead(error)) => Err(unnamed(log, unit, path, error)),
     }
+}
+
+/// Looks whether a disk of the array that the words ask for was served as another unit, before any file is made: words that are refused
+/// leave nothing behind by which the right ones would be refused.
+pub(crate) fn look_at_units<R: Files<File = File>>(
+    rt: &R,
+    alloc: Global,
+    log: &Log,
+    options: &Options<'_>,
+) -> Result<(), Fault>
+    requires { length options.now.paths.items ≤ MAX_UNITS }
+{
+    for unit in 0..options.paths.len() as u8 {
+        let (place, path) = place_of(options, unit);
+        let found = look_as(rt, alloc, path, name_of(place));
+        told_unit(alloc, log, place, path, found)?;
+    }
+    Ok(())
 }
 
 // Tells the log of a disk beside which nothing can say as which unit it is served.
@@ -243,7 +269,8 @@ pub(crate) fn open_record<R: Files<File = File> + Clone + Drop>(
     let mine = rt.clone()?;
     match open_registrations(mine, alloc, path, Some(file_log)) {
         Ok(found) => {
-            keep_its_unit(rt, alloc, log, place, path)?;
+            let kept = open_as(rt, alloc, path, name_of(place));
+            told_unit(alloc, log, place, path, kept)?;
             Ok(found)
         }
         Err(fault) => {
@@ -305,6 +332,7 @@ pub fn open<R: Files<File = File> + Clock + Wait + Clone + Drop>(
     ensures disks { IfOk result (λ array.
         map (λ new. new.unit.device.file.node) array.units.items ≡ map (λ preparer. preparer.node) array.preparers.items) }
 {
+    look_at_units(rt, alloc, log, options)?;
     let mut array = OpenArray::new(alloc);
     for unit in 0..options.paths.len() as u8 {
         let (place, path) = place_of(options, unit);

@@ -3,7 +3,9 @@ ghost use Rattle.std.specs.Prelude.{◌≡◌, ◌<◌, ◌≤◌, IfOk, length,
 ghost use Rattle.std.specs.Arc.{arc_value};
 ghost use Rattle.unit_state.specs.Serials.{IsOpening};
 
-use crate::disks::{OpenArray, fault_of, open_blocks, open_preparer, open_record, place_of};
+use crate::disks::{
+    OpenArray, fault_of, look_at_units, open_blocks, open_preparer, open_record, place_of,
+};
 use crate::served::{serve, tell_want};
 use aptpl_file::RegFile;
 use array_administration::Administration;
@@ -102,6 +104,7 @@ pub fn open_files<R: Files<File = File> + Clock + Wait + Clone + Drop>(
 ) -> Result<Vec<FileParts<R>>, Fault>
     requires { length options.now.paths.items ≤ MAX_UNITS }
 {
+    look_at_units(rt, alloc, log, options)?;
     let mut parts = Vec::new(alloc);
     for unit in 0..options.paths.len() as u8 {
         let (place, path) = place_of(options, unit);

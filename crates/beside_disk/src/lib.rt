@@ -9,4 +9,4 @@ mod unit_file;
 
 pub use fault::RegistrationsFault;
 pub use registrations::{Registrations, open_registrations};
-pub use unit_file::{UnitFileFault, UnitName, open_as};
+pub use unit_file::{UnitFileFault, UnitName, look_as, open_as};

@@ -120,6 +120,20 @@ fn is_named<R: Files<File = File>>(
     }
 }
 
+/// Sees to it that the disk of this name was served as no other unit than this one. Where it was served as none, nothing is made.
+pub fn look_as<R: Files<File = File>>(
+    rt: &R,
+    alloc: Global,
+    disk: &str,
+    name: UnitName,
+) -> Result<(), UnitFileFault> {
+    let path = joined(alloc, disk, ".unit")?;
+    if fs::symlink_metadata(rt, path.as_str()).is_err() {
+        return Ok(());
+    }
+    is_named(rt, path.as_str(), name)
+}
+
 /// Sees to it that the disk of this name is served as this unit, and as no other one. The file beside it, which has `.unit` behind its
 /// name, says as which; where there is none it is made, and lasts.
 pub fn open_as<R: Files<File = File>>(
