@@ -421,6 +421,11 @@ def disks_in_another_order(folder):
     is_so("of another array", ended(["--array", "7", *disks]), (2, "arrayd: unit 0 of array 7 is unit 0 of array 1"))
     with open(disks[0] + ".unit", encoding="ascii") as file:
         is_so("what a disk remembers", file.read(), "unit 0 array 1\n")
+    third = made(f"{folder}/2", 16)
+    for more in ({}, {"ARRAYD_DEADLINE": "5"}):
+        said = ended([disks[0], third, disks[1]], more=more)
+        is_so("one between them", said, (2, "arrayd: unit 2 of array 1 is unit 1 of array 1"))
+        is_so("that is none for it", [os.path.exists(third + end) for end in (".unit", ".reg")], [False, False])
     with Array(disks) as array:
         is_so("in their order", login().read(0, 0, 1)[:12], b"of the first")
         array.quit()
