@@ -126,7 +126,7 @@ def words(folder):
             is_so("version", asked(folder, "version"), [f"arrayd {file.read().strip()}"])
         is_so("help", [line[:15].rstrip() for line in asked(folder, "help")], HELP)
         is_so("sessions", asked(folder, "sessions"), [])
-        for text in ("", "no", "STATUS", "QUIT", "down", "down 0", "down 3", " status", "status ", "end", "end ", "end x", "end -1",
+        for text in ("", "no", "STATUS", "QUIT", "down", "down 0", "down 3", " status", "status ", "end", "end ", "end x", "end -1", "end +1",
                      "end 65536", "end 1 2", "sessions 1", "\u00e9", "."):
             is_so(text, told(folder, text), ["?", UNKNOWN])
         is_so("no UTF-8", told(folder, b"\xff\xfe\n"), ["?", UNKNOWN])
@@ -237,7 +237,7 @@ def keys(folder):
         second.reserve_out(0, 1, kind=3, key=0xABC)
         ends = 'isid 0x400001370000 holds {} initiator "iqn.2000-01.test:host"'
         is_so("keys", asked(folder, "keys 0"), ["key 0x11 controller 1 " + ends.format(0), "key 0xabc controller 2 " + ends.format(3)])
-        for text in ("keys", "keys ", "keys x", "keys 256"):
+        for text in ("keys", "keys ", "keys x", "keys +0", "keys 256"):
             is_so(text, asked(folder, text), ["?"])
         array.quit()
 

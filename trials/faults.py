@@ -8,37 +8,47 @@ usage: trials/faults.py
 
 import os
 import socket
+import subprocess
 import sys
 import tempfile
+import time
 
 from initiator import Session
-from running import PORT, TARGET, TOP, Array, made, ran
+from running import ARRAYD, PORT, TARGET, TOP, Array, made, ran
 
 WRONG = "wrong words"
 
 # The words, where P is a port that is free, what is wrong with them, and what of it is named.
 ROWS = [
-    ("", WRONG, "DISK"), ("--help disk", WRONG, "Usage"), ("--once --version", WRONG, "--version"), ("--port 0 disk", WRONG, "--port"),
+    ("", WRONG, "no DISK"), ("--port 3260 --array=1", WRONG, "no DISK"), ("--help disk", WRONG, "--help beside other words"),
+    ("--once --version", WRONG, "--version beside other words"), ("--port 0 disk", WRONG, "--port"),
     ("--port 65529 disk", WRONG, "65529"), ("--portals 5 disk", WRONG, "--portals"), ("--array 4294967296 disk", WRONG, "4294967296"),
-    ("--host localhost disk", WRONG, "--host"), ("--target= disk", WRONG, "--target"),
-    ("--target array disk", WRONG, "--target"), ("--target iqn.2000-01.Test:array disk", WRONG, "--target"),
-    ("--target iqn.2000-1.test:array disk", WRONG, "--target"), ("--target eui.0123456789abcde disk", WRONG, "--target"), ("--once disk", WRONG, "DISK"),
-    ("1 2 3 4 5 6 7 8 9", WRONG, "DISK"), ("--onc", WRONG, "--onc"),
+    ("--host localhost disk", WRONG, "--host localhost"), ("--host=::1 disk", WRONG, "--host ::1"), ("--target= disk", WRONG, "--target"),
+    ("--target array disk", WRONG, "--target array"), ("--target iqn.2000-01.Test:array disk", WRONG, "--target"),
+    ("--target iqn.2000-1.test:array disk", WRONG, "--target"), ("--target eui.0123456789abcde disk", WRONG, "--target"), ("--once disk", WRONG, "a DISK beside --once"),
+    ("1 2 3 4 5 6 7 8 9", WRONG, "more than 8 times DISK"), ("--onc", WRONG, "--onc"),
     ("none", "cannot use unit 0", "it is not there, errno 2: none"), ("odd", "cannot use unit 0", "its length is no multiple of 512: odd"),
     ("empty", "cannot use unit 0", "it is empty: empty"), ("disk none", "cannot use unit 1", "it is not there, errno 2: none"),
-    ("noreg", "cannot use registration file 0", "it is no registration file: noreg"),
-    ("disk noreg", "cannot use registration file 1", "it is no registration file: noreg"),
+    ("noreg", "cannot use registration file 0", "it is no registration file: noreg.reg"),
+    ("disk noreg", "cannot use registration file 1", "it is no registration file: noreg.reg"),
     # the first fault ends the program: the words, then each unit with its registration file, then the portals
     ("--port 0 none", WRONG, "--port"), ("noreg none", "cannot use registration file 0", "noreg"),
     ("--host 192.0.2.1 none", "cannot use unit 0", "none"),
     ("--host 192.0.2.1 --port P disk", "cannot listen at controller 1 portal 0", f"192.0.2.1:{PORT}, errno 99"),
 ]
 
+# Names that iSCSI does not allow: a month, a domain, a character.
+NAMES = ["iqn.2000-13.test:x", "iqn.2000-00.test:x", "iqn.2000-01", "iqn.2000-01.", "iqn.2000-01..x", "iqn.2000-01.:x", "iqn.2000-01.test.:x",
+         *(f"iqn.2000-01.test:{one}" for one in "\u0080\u00a0\u200b\u00c4\u0416X_ ")]
+
 # What the environment has, and what of it is named.
 VARIABLES = [
     ({"ARRAYD_DEADLNE": "5"}, "ARRAYD_DEADLNE"), ({"ARRAYD_": ""}, "ARRAYD_"), ({"ARRAYD_DEADLINE": "0"}, "ARRAYD_DEADLINE"),
     ({b"ARRAYD_LOG": b"log\xff"}, "ARRAYD_LOG"), ({"ARRAYD_HTTP": "x"}, "ARRAYD_HTTP"), ({"ARRAYD_HOST2": "x"}, "ARRAYD_HOST2"),
-    ({"ARRAYD_CONTROL": "x" * 108}, "ARRAYD_CONTROL"),
+    ({"ARRAYD_CONTROL": "x" * 108}, "ARRAYD_CONTROL"), ({b"PS9": b"\xff", "ARRAYD_LOGS": "x"}, "ARRAYD_LOGS"),
+    ({"PS9": "x" * 10000, "ARRAYD_LOGS": "x"}, "ARRAYD_LOGS"),
+    # the log is no disk, nor a file beside one, whatever its name
+    *(({"ARRAYD_LOG": name}, "ARRAYD_LOG") for name in ("disk", "disk.reg", "disk.unit", "./disk", "link", "linked.reg")),
 ]
 
 # Which port is taken, counted from P on, and how many portals each controller is to have.
@@ -84,17 +94,42 @@ def quit_beside_a_session():
             expect("quit with sessions open", array.quit(20), 0)
 
 
+def closed_descriptors():
+    """A program that was started without its standard output writes its lines nowhere, and so not into a disk."""
+    kept = {}
+    for closed in ((0,), (1,), (2,), (0, 1, 2)):
+        def begin(closed=closed):
+            for one in closed:
+                os.close(one)
+        with subprocess.Popen([ARRAYD, "--port", str(PORT), "disk"], stdin=subprocess.PIPE, stdout=subprocess.PIPE,
+                              stderr=subprocess.PIPE, preexec_fn=begin) as array:
+            array.communicate(b"status\nquit\n", timeout=60)
+        for name in ("disk", "disk.reg", "disk.unit"):
+            with open(name, "rb") as file:
+                found = file.read()
+            if b"arrayd: ready" in found or b"generation" in found or kept.setdefault(name, len(found)) != len(found):
+                sys.exit(f"descriptors {closed} closed: {name} was written")
+        expect(f"descriptors {closed} closed", array.returncode, 0)
+
+
 def main():
     with tempfile.TemporaryDirectory() as folder:
         os.chdir(folder)
         for name, blocks in [("disk", 16), ("odd", 16), ("empty", 0), ("noreg", 16), ("noreg.reg", 1)]:
             made(name, blocks)
         os.truncate("odd", 16 * 512 + 1)
+        os.symlink("disk", "link")
         tells_of_itself()
+        closed_descriptors()
         for words, fault, named in ROWS:
             refused(words.split(), fault, named)
+        for name in NAMES:
+            refused(["--target", name, "disk"], WRONG, "--target")
+        os.link("disk.reg", "linked.reg")
+        before = os.stat("disk").st_size
         for more, named in VARIABLES:
             refused(["disk"], WRONG, f": {named}\n", more=more)
+        expect("a disk as the log", os.stat("disk").st_size, before)
         for taken, portals, fault in TAKEN:
             with socket.socket() as other:
                 other.bind(("127.0.0.1", PORT + taken))
@@ -106,7 +141,17 @@ def main():
         expect("a last line without its end", run(words, "status"), (0, "arrayd: ready\n" + status, ""))
         with Array(["disk"]) as first:
             refused(["--port", str(PORT + 8), "disk"], "cannot use unit 0", "another server has it, or another unit: disk")
+            refused(["--port", str(PORT + 8), "empty"], WRONG, ": ARRAYD_LOG\n", more={"ARRAYD_LOG": "disk"})
             expect("quit", first.quit(), 0)
+        with Array(["disk"], log="log") as first:
+            # its lines have been written then
+            time.sleep(2)
+            os.truncate("log", 8192)
+            refused(["--port", str(PORT + 8), "log"], "cannot use unit 0", "another server has it, or another unit: log")
+            expect("quit", first.quit(), 0)
+        for name in ("iqn.2000-12.test:\u00e4\u00f6", "iqn.2000-01.test", "iqn.2000-01.test.x:a:b"):
+            with Array(["disk"], options=["--target", name]) as array:
+                expect(name, array.quit(), 0)
         quit_beside_a_session()
     print(f"{len(ROWS) + len(VARIABLES) + len(TAKEN)} faults, the console, one server a disk, and quit, as they should be")
 

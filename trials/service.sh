@@ -99,6 +99,11 @@ first=$pid
 other=$(mkdir "$place/other" && cd "$place/state" && "$OLDPWD/service/arrayd-run" "$place/other" --port "$port" unit0 2>&1; echo $?)
 is 'a second one over the same disk is refused' "$other" 'arrayd: cannot use unit 0: another server has it, or another unit: unit0
 1'
+again=$(cd "$place/state" && "$OLDPWD/service/arrayd-run" "$place/run" --port "$port" unit1 2>&1; echo $?)
+is 'a second one in its folder is refused' "$again" "arrayd-run: an array lives in $place/run
+1"
+is 'and the first one answers there' "$(console status | sed 's/ generation.*//')" 'unit 0 owner 1 states 0 1
+unit 1 owner 2 states 1 0'
 is 'and the first is there still' "$(kill -0 "$first" && echo there)" there
 # a session that lives holds up no end
 python3 - "$port" << 'END' &

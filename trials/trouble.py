@@ -59,8 +59,8 @@ def words_that_the_log_names(folder):
     for words, named in ((["--pot", "1", disk], "--pot"), (["--port", "65529", disk], "65529"), (["--array", "-1", disk], "-1"),
                          (["--port", "1", "--port", "2", disk], "--port")):
         is_so(f"{words}", named in told(words), True)
-    for words, what in ((["--target", "", disk], "--target"), (["--host", "localhost", disk], "--host"), ([], "DISK"),
-                        ([disk] * 9, "DISK"), (["--once", disk], "DISK")):
+    for words, what in ((["--target", "", disk], "--target"), (["--host", "localhost", disk], "--host localhost"), ([], "no DISK"),
+                        (["--host", "a\nb", disk], "--host"), ([disk] * 9, "more than 8 times DISK"), (["--once", disk], "a DISK beside --once")):
         is_so(f"{words}", told(words), f'"{what}"')
     for variable, text in (("ARRAYD_DEADLINE", "0"), ("ARRAYD_HOST2", "localhost"), ("ARRAYD_HTTP", "9860"), ("ARRAYD_HTTP", "127.0.0.1:0"),
                            ("ARRAYD_CONTROL", folder + "/" + "x" * 120), ("ARRAYD_CONTROLS", "")):

@@ -559,13 +559,13 @@ def answers(folder):
         is_so("another", get("/no")[0], 404)
         is_so("with words", get("/health?x=1")[0], 200)
         for method in ("POST", "PUT", "DELETE", "OPTIONS"):
-            code, fields, _ = asked(f"{method} /status HTTP/1.1\r\nHost: localhost\r\n\r\n".encode())
-            is_so(method, (code, fields["allow"]), (405, "get, head"))
+            code, fields, said = asked(f"{method} /status HTTP/1.1\r\nHost: localhost\r\n\r\n".encode())
+            is_so(method, (code, fields["allow"], said), (405, "get, head", b"only GET and HEAD\n"))
         for path in ("/", "/health", "/no"):
             code, fields, body = asked(f"HEAD {path} HTTP/1.1\r\nHost: localhost\r\n\r\n".encode())
             full = get(path)
             is_so("HEAD", (code, fields["content-length"], body), (full[0], full[1]["content-length"], b""))
-        for name in (f"127.0.0.1:{AT}", "10.1.2.3", "localhost", f"localhost:{AT}"):
+        for name in (f"127.0.0.1:{AT}", "10.1.2.3", "localhost", f"localhost:{AT}", f"LOCALHOST:{AT}", "LocalHost"):
             is_so(name, get("/health", name)[0], 200)
         for name in ("evil.example", f"evil.example:{AT}", "localhost.evil.example", "127.0.0.1.evil.example", "1.2.3", "here"):
             is_so(name, get("/status", name)[::2], (421, b"ask by an address, or as localhost\n"))

@@ -67,6 +67,15 @@ impl End {
     }
 }
 
+// A number, where it is digits alone: one with a sign before it is none.
+fn digits_in(text: &str) -> Option<&str> {
+    if text.as_bytes().iter().all(|byte| byte.is_ascii_digit()) {
+        Some(text)
+    } else {
+        None
+    }
+}
+
 // What a line has the array do. None: it asks something, or is none of those that there are.
 fn deed_in(text: &str) -> Option<Deed> {
     match text {
@@ -76,7 +85,7 @@ fn deed_in(text: &str) -> Option<Deed> {
         "up 1" => Some(Deed::Up(Group::One)),
         "up 2" => Some(Deed::Up(Group::Two)),
         "quit" => Some(Deed::Quit),
-        _ => match text.strip_prefix("end ")?.parse::<u16>() {
+        _ => match digits_in(text.strip_prefix("end ")?)?.parse::<u16>() {
             Ok(tsih) => Some(Deed::End(tsih)),
             Err(_) => None,
         },
@@ -211,7 +220,8 @@ impl<R: Wait + Clock + Drop, A: Administered + Drop> Answers<R, A> {
         text: &str,
     ) -> io::Result<End> {
         if let Some(number) = text.strip_prefix("keys ")
-            && let Ok(unit) = number.parse::<u8>()
+            && let Some(digits) = digits_in(number)
+            && let Ok(unit) = digits.parse::<u8>()
         {
             return self.say_keys(alloc, writer, unit);
         }

@@ -21,6 +21,9 @@ const NO_ROOM: u64 = 28;
 
 const NO_QUOTA: u64 = 122;
 
+/// What is shown as the call of a failure where the disk was to be looked at.
+const SEEK: &str = "seek";
+
 /// What is shown as the file and the call of failures.
 const DISK: &str = "disk";
 
@@ -127,6 +130,11 @@ impl Trouble {
     }
 }
 
+// Whether this error comes from a device, so that the system's log tells more: EIO, ENXIO, ENODATA, ENOLINK, EILSEQ, ETIMEDOUT, EREMOTEIO.
+fn is_of_device(errno: u64) -> bool {
+    matches!(errno, 5 | 6 | 61 | 67 | 84 | 110 | 121)
+}
+
 // What is to be told of calls on a disk that failed.
 fn failed_sentence(culprit: Option<&FailureView>) -> &'static str {
     let (call, errno) = match culprit {
@@ -139,8 +147,12 @@ fn failed_sentence(culprit: Option<&FailureView>) -> &'static str {
         _ if call == OPEN => {
             "Its disk was not opened for the other controller: its name is gone or is another file's, or the open itself failed."
         }
-        _ => {
+        _ if is_of_device(errno) => {
             "The disk failed. The system's log (`dmesg`) says why. Of a write that failed each block is old or new."
+        }
+        _ if call == SEEK => "How long its disk is could not be asked: `error` says why.",
+        _ => {
+            "The system refused calls on its disk: `error` says why. Of a write that failed each block is old or new."
         }
     }
 }

@@ -3,15 +3,54 @@
 use command_line::Fault;
 use event_log::Page;
 use events::{Event, Stamp, put_line};
-use std::alloc::Global;
+use std::alloc::{AllocError, Global};
 use std::env::{self, Env, VarError};
-use std::fs::{File, OpenFile};
+use std::fs::{File, OpenFile, TryLockError};
 use std::io::Write;
+use std::os::unix::fs::MetadataExt;
 use std::rt::Files;
 use std::time::Clock;
 
 /// The variable of the environment that names the file.
 pub const VARIABLE: &str = "ARRAYD_LOG";
+
+/// What stands behind the name of a disk in its own name and in those of the files beside it.
+const BESIDE: [&str; 3] = ["", ".reg", ".unit"];
+
+/// Why the file of the log is not held.
+#[derive(Drop)]
+pub enum NotHeld {
+    /// It is a disk, or a file beside one.
+    Disk,
+    /// For want of memory.
+    NoMemory,
+    /// It was not opened: the error of the system, 0 where it told none.
+    Closed(i32),
+}
+
+// Whether a file has the name of this disk, or of a file beside it.
+fn is_beside(path: &str, disk: &str) -> bool {
+    match path.strip_prefix(disk) {
+        Some(rest) => BESIDE.contains(&rest),
+        None => false,
+    }
+}
+
+// Which file this is, where the system says it.
+fn node_of(file: &File) -> Option<(u64, u64)> {
+    match file.metadata() {
+        Ok(metadata) => Some((metadata.dev(), metadata.ino())),
+        Err(_) => None,
+    }
+}
+
+// Whether this name leads to this file.
+fn leads_to<R: Files<File = File>>(rt: &R, path: &str, file: &File) -> bool {
+    match File::open(rt, path) {
+        Ok(other) => node_of(&other) == node_of(file),
+        Err(_) => false,
+    }
+}
 
 /// The file of this name. Where there is none it is made.
 #[derive(Drop)]
@@ -54,6 +93,61 @@ impl<R: Files<File = File> + Drop> LogFile<R> {
     }
 }
 
+impl<R: Files<File = File> + Drop> LogFile<R> {
+    // Whether it is one of these disks, or lies beside one, by its name.
+    fn is_of(&self, disks: &[&str]) -> bool {
+        disks.iter().any(|disk| is_beside(self.path.as_str(), disk))
+    }
+
+    // Whether this file, which it is, is one of these disks, or lies beside one, whatever its names.
+    fn is_one_of(&self, file: &File, disks: &[&str]) -> Result<bool, AllocError>
+    where
+        R: AllocGlobal,
+    {
+        for disk in disks {
+            for ending in BESIDE {
+                let mut path = String::from_str(self.rt.alloc(), disk)?;
+                path.push_str(ending)?;
+                if leads_to(&self.rt, path.as_str(), file) {
+                    return Ok(true);
+                }
+            }
+        }
+        Ok(false)
+    }
+
+    // The file, unless it is one of these disks, or lies beside one.
+    fn unless_disk(&self, file: File, disks: &[&str]) -> Result<File, NotHeld>
+    where
+        R: AllocGlobal,
+    {
+        match self.is_one_of(&file, disks) {
+            Ok(false) => Ok(file),
+            Ok(true) => Err(NotHeld::Disk),
+            Err(_) => Err(NotHeld::NoMemory),
+        }
+    }
+
+    /// Opens it, and locks it as somebody does who lets others do the same: then no array serves it as a disk, or keeps registrations in
+    /// it. What cannot be locked, as a terminal, is used all the same.
+    pub fn held(&self, disks: &[&str]) -> Result<File, NotHeld>
+    where
+        R: AllocGlobal,
+    {
+        if self.is_of(disks) {
+            return Err(NotHeld::Disk);
+        }
+        let file = match self.opened() {
+            Ok(file) => file,
+            Err(error) => return Err(NotHeld::Closed(error)),
+        };
+        match file.try_lock_shared() {
+            Err(TryLockError::WouldBlock) => Err(NotHeld::Disk),
+            Ok(()) | Err(TryLockError::Error(_)) => self.unless_disk(file, disks),
+        }
+    }
+}
+
 impl<R: Files<File = File> + Drop> Page for LogFile<R> {
     fn open(&self) -> Option<File> {
         self.opened().ok()
@@ -69,7 +163,8 @@ pub fn write_one<R: Clock + Env + AllocGlobal + Files<File = File> + Clone + Dro
     let Some(page) = LogFile::named(rt.clone()?)? else {
         return Ok(());
     };
-    let Some(file) = page.open() else {
+    // No disk that is served gets a line.
+    let Ok(file) = page.held(&[]) else {
         return Ok(());
     };
     let mut line = String::new(alloc);

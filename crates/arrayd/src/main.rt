@@ -9,15 +9,17 @@ mod administration;
 mod log_file;
 mod once;
 mod settings;
+mod standard;
 mod target_name;
 mod told;
+mod wrong_words;
 
 use administration::Asked;
 use array::{Attended, open, open_files, serve, serve_timed, tell_want};
 use command_line::{Fault, MAX_UNITS, Options};
 use event_log::{Log, start};
 use events::Event;
-use log_file::LogFile;
+use log_file::{LogFile, NotHeld};
 use settings::Settings;
 use std::alloc::Global;
 use std::env::Env;
@@ -58,10 +60,39 @@ fn counting_log<R: Env + AllocGlobal + Files<File = File> + Clone + Drop>(
     Ok((asked.counted(alloc, log, units)?, file))
 }
 
+// The log's file, held so that no array takes it for a disk as long as this is kept; none where there is none to hold.
+fn held_log<R: AllocGlobal + Files<File = File> + Drop>(
+    rt: &impl Eprint,
+    file: &Option<LogFile<R>>,
+    options: &Options<'_>,
+) -> Result<Option<File>, Fault> {
+    let Some(file) = file else {
+        return Ok(None);
+    };
+    match file.held(options.paths.as_slice()) {
+        Ok(held) => Ok(Some(held)),
+        Err(NotHeld::Disk) => Err(Fault::WrongWords),
+        Err(NotHeld::NoMemory) => Err(Fault::NoMemory),
+        Err(NotHeld::Closed(error)) => {
+            let path = file.path();
+            let _ = eprintln!(rt; "arrayd: cannot write the log: errno {error}: {path}");
+            Ok(None)
+        }
+    }
+}
+
 // The variable of the log's file, where that is what is wrong.
 fn variable_of(fault: Fault) -> &'static str {
     match fault {
         Fault::WrongWords => log_file::VARIABLE,
+        _ => "",
+    }
+}
+
+// What stands behind the name of a disk in the name of the file of which a fault tells.
+fn ending_of(fault: Fault, disk: &str) -> &'static str {
+    match fault {
+        Fault::CannotUseRegistrationFile(_, _, _) if !disk.is_empty() => ".reg",
         _ => "",
     }
 }
@@ -71,7 +102,8 @@ fn complain(rt: &impl Eprint, fault: Fault, of: &str) -> ExitCode
     ensures { exit_status result ≡ status_of fault }
 {
     let before = if of.is_empty() { "" } else { ": " };
-    let _ = eprintln!(rt; "arrayd: {fault}{before}{of}");
+    let ending = ending_of(fault, of);
+    let _ = eprintln!(rt; "arrayd: {fault}{before}{of}{ending}");
     fault.status()
 }
 
@@ -83,7 +115,7 @@ fn disk_of<'a>(options: &'a Options<'_>, unit: u8) -> &'a str {
     }
 }
 
-// The file of which a fault tells; of a registration file that of its disk.
+// The file of which a fault tells; of a registration file the disk beside which it is.
 fn file_of<'a>(fault: Fault, options: &'a Options<'_>, asked: &'a Asked) -> &'a str {
     match fault {
         Fault::OtherUnit(unit, _, _, _)
@@ -138,7 +170,7 @@ fn options_of<'a, R: Clock + Env + AllocGlobal + Files<File = File> + Eprint + C
     match command_line::read(alloc, words) {
         Ok(options) => Ok(options),
         Err(fault) => {
-            let part = command_line::wrong_part(alloc, words).unwrap_or(String::new(alloc));
+            let part = wrong_words::part(alloc, words).unwrap_or(String::new(alloc));
             Err(refuse(rt, alloc, Fault::from(fault), part.as_str()))
         }
     }
@@ -163,7 +195,9 @@ fn asked<
         });
     }
     if !target_name::is_allowed(options.target) {
-        return Err(refuse(rt, alloc, Fault::WrongWords, "--target"));
+        let part = wrong_words::with_value(alloc, "--target", options.target);
+        let part = part.unwrap_or(String::new(alloc));
+        return Err(refuse(rt, alloc, Fault::WrongWords, part.as_str()));
     }
     match settings::unknown(rt) {
         Ok(None) => {}
@@ -195,6 +229,7 @@ fn give_up(
 }
 
 fn main(rt: HostRuntime) -> ExitCode {
+    let _standard = standard::taken(&rt);
     let alloc = rt.alloc();
     let words = match all_words(&rt) {
         Ok(words) => words,
@@ -209,12 +244,12 @@ fn main(rt: HostRuntime) -> ExitCode {
         Ok(found) => found,
         Err(fault) => return complain(&rt, fault, variable_of(fault)),
     };
+    let _held = match held_log(&rt, &file, &options) {
+        Ok(held) => held,
+        Err(fault) => return complain(&rt, fault, variable_of(fault)),
+    };
     // The types that the log's thread takes along are known here alone.
     if let Some(file) = file {
-        if let Err(error) = file.opened() {
-            let path = file.path();
-            let _ = eprintln!(&rt; "arrayd: cannot write the log: errno {error}: {path}");
-        }
         if start::<HostRuntime, LogFile<HostRuntime>>(&rt, alloc, &log, file).is_err() {
             return complain(&rt, Fault::NoMemory, "");
         }

@@ -3,7 +3,7 @@
 use crate::administration::{self, Asked};
 use crate::log_file;
 use command_line::Fault;
-use std::env::{self, Env, VarError};
+use std::env::{self, Env, FillError, VarError};
 use std::net::Ipv4Addr;
 use std::time::Duration;
 
@@ -12,6 +12,12 @@ const DEADLINE: &str = "ARRAYD_DEADLINE";
 
 /// The variable that names an address of controller 2.
 const SECOND_HOST: &str = "ARRAYD_HOST2";
+
+/// How the variables of the program begin.
+const OURS: &[u8] = b"ARRAYD_";
+
+/// How many bytes a variable may have, its name too, before more room is made.
+const ROOM: usize = 4096;
 
 /// The most seconds.
 const LONGEST: u64 = 3600;
@@ -59,17 +65,49 @@ fn is_known(name: &str) -> bool {
     )
 }
 
-/// A variable of the environment that begins as those of the program do, and is none of them. None is looked for where there is a
-/// variable, whosever, that is no UTF-8.
+// Reads a variable of the environment, its name and its value, into this room, which grows where it has to; its length.
+fn read_entry<R: Env>(rt: &R, place: usize, room: &mut Vec<u8>) -> Result<Option<usize>, Fault> {
+    for _ in 0..usize::BITS {
+        match rt.var_at(place, room.as_mut_slice()) {
+            Ok(length) => return Ok(Some(length)),
+            Err(FillError::NotPresent) => return Ok(None),
+            Err(FillError::TooLong) => {}
+        }
+        let more = room.len().saturating_mul(2);
+        if room.resize(more, 0u8).is_err() {
+            return Err(Fault::NoMemory);
+        }
+    }
+    Err(Fault::NoMemory)
+}
+
+// The name of a variable, where it begins as those of the program do, and is none of them.
+fn unknown_name(entry: &[u8]) -> Option<&str> {
+    let end = entry.iter().position(|byte| *byte == b'=')?;
+    let name = entry.get(..end)?;
+    if !name.starts_with(OURS) {
+        return None;
+    }
+    match str::from_utf8(name) {
+        Ok(name) if is_known(name) => None,
+        Ok(name) => Some(name),
+        Err(_) => Some("a variable whose name is not UTF-8"),
+    }
+}
+
+/// A variable of the environment that begins as those of the program do, and is none of them. What others hold need be no text.
 pub fn unknown<R: Env + AllocGlobal>(rt: &R) -> Result<Option<String>, Fault> {
-    let vars = match env::vars(rt) {
-        Ok(vars) => vars,
-        Err(VarError::OutOfMemory) => return Err(Fault::NoMemory),
-        Err(_) => return Ok(None),
-    };
-    for (name, _value) in vars {
-        if name.as_str().starts_with("ARRAYD_") && !is_known(name.as_str()) {
-            return Ok(Some(name));
+    let mut room = Vec::new(rt.alloc());
+    if room.resize(ROOM, 0u8).is_err() {
+        return Err(Fault::NoMemory);
+    }
+    for place in 0..usize::MAX {
+        let Some(length) = read_entry(rt, place, &mut room)? else {
+            break;
+        };
+        let entry = room.as_slice().get(..length).unwrap_or(&[]);
+        if let Some(name) = unknown_name(entry) {
+            return Ok(Some(String::from_str(rt.alloc(), name)?));
         }
     }
     Ok(None)

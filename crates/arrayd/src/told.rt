@@ -35,7 +35,7 @@ pub fn tells(rt: &impl Print, words: &[String]) -> bool {
             let _ = println!(rt; "arrayd {VERSION}");
             true
         }
-        "--help" => {
+        "--help" | "-h" => {
             let _ = print!(rt; "{HELP}");
             true
         }

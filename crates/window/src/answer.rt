@@ -40,7 +40,7 @@ fn is_for_us(host: Option<&str>) -> bool {
         return true;
     };
     let host = without_port(value);
-    host == "localhost" || host.parse::<Ipv4Addr>().is_ok()
+    host.eq_ignore_ascii_case("localhost") || host.parse::<Ipv4Addr>().is_ok()
 }
 
 /// What a request with this method, this path and this field Host asks for. HEAD is GET without a body.

@@ -144,7 +144,11 @@ fn put_static(response: &mut Response, text: &'static str) -> Result<(), AllocEr
 // That nothing can be done here.
 fn refuse(response: &mut Response) -> Result<(), AllocError> {
     add!(response, header::ALLOW, "GET, HEAD")?;
-    say(response, StatusCode::METHOD_NOT_ALLOWED, b"only GET\n")
+    say(
+        response,
+        StatusCode::METHOD_NOT_ALLOWED,
+        b"only GET and HEAD\n",
+    )
 }
 
 // That the request was meant for another server.

@@ -349,7 +349,7 @@ async function look() {
     if (paused) return;
     if (isKept && Date.now() - asked >= 1000 * STEP) {
       asked = Date.now();
-      isKept = await recall().catch(() => true);
+      recall().then(is => { isKept = is; }).catch(() => {});
     }
     const view = await ask('/status').catch(() => null);
     if (view === null) {

@@ -1,0 +1,86 @@
+//! What of a command line that is wrong is told.
+
+use std::alloc::{AllocError, Global};
+
+// Whether a value can be shown in a line: it is not empty, and no character of it moves a terminal.
+fn is_shown(value: &str) -> bool {
+    !value.is_empty()
+        && !value.chars().any(
+            |character| matches!(character, '\0'..='\u{1F}' | '\u{7F}'..='\u{9F}'),
+        )
+}
+
+/// An option and its value, where that can be shown.
+pub fn with_value(alloc: Global, option: &str, value: &str) -> Result<String, AllocError> {
+    if !is_shown(value) {
+        return String::from_str(alloc, option);
+    }
+    format!(in alloc; "{option} {value}")
+}
+
+// The value that an option has among the words, the last where it has several.
+fn value_of<'a>(words: &'a [String], option: &str) -> &'a str {
+    let mut value = "";
+    let mut is_next = false;
+    for word in words {
+        let word = word.as_str();
+        if is_next {
+            value = word;
+        } else if let Some(rest) = word.strip_prefix(option)
+            && let Some(given) = rest.strip_prefix('=')
+        {
+            value = given;
+        }
+        is_next = !is_next && word == option;
+    }
+    value
+}
+
+// Whether a disk is among the words, of which the first is the program's name.
+fn has_disk(words: &[String]) -> bool {
+    let mut is_value = true;
+    for word in words {
+        let word = word.as_str();
+        if !is_value && !word.starts_with("--") {
+            return true;
+        }
+        is_value = !is_value && word.starts_with("--") && word != "--once" && !word.contains('=');
+    }
+    false
+}
+
+// What is wrong with the disks.
+fn of_disks(words: &[String]) -> &'static str {
+    if words.iter().any(|word| word.as_str() == "--once") {
+        "a DISK beside --once"
+    } else if has_disk(words) {
+        "more than 8 times DISK"
+    } else {
+        "no DISK"
+    }
+}
+
+// A word that has to be the only one.
+fn alone(words: &[String]) -> Option<&'static str> {
+    for word in words {
+        match word.as_str() {
+            "--version" => return Some("--version beside other words"),
+            "--help" | "-h" => return Some("--help beside other words"),
+            _ => {}
+        }
+    }
+    None
+}
+
+/// What of words that are refused as wrong asks for nothing, with its value.
+pub fn part(alloc: Global, words: &[String]) -> Result<String, AllocError> {
+    if let Some(told) = alone(words) {
+        return String::from_str(alloc, told);
+    }
+    let part = command_line::wrong_part(alloc, words)?;
+    match part.as_str() {
+        "DISK" => String::from_str(alloc, of_disks(words)),
+        "--host" | "--target" => with_value(alloc, part.as_str(), value_of(words, part.as_str())),
+        _ => Ok(part),
+    }
+}
