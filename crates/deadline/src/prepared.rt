@@ -196,7 +196,7 @@ fn read_by<R: Wait + Clock + Drop, P: Preparer>(
 }
 
 // Has a thread read blocks beside the device, behind such a look, which stands for its stamp. None: the memory is gone.
-#[tactic(auto, using(crate::specs::Back::a_read_behind_a_look_says))]
+#[tactic(auto, using(timed_calls::specs::Back::a_read_behind_a_look_says))]
 fn read_behind<R: Wait + Clock + Drop, P: Preparer>(
     asker: &mut Asker<R, PreparerRequest<P>>,
     beside: Beside,

@@ -142,7 +142,7 @@ pub(crate) struct PreparerRunner<R: Wait + Clock + Drop, P: Preparer> {
 // Reads blocks by a preparer beside the device, behind such a look at how many of its writes had come back. The stamp of the file's own
 // preparer goes by the writes that ended in the file; a device with a deadline counts those that came back. So that stamp is replaced by
 // the look. What was not read stays mere memory.
-#[tactic(auto, using(crate::specs::Back::a_read_behind_a_look_says))]
+#[tactic(auto, using(timed_calls::specs::Back::a_read_behind_a_look_says))]
 fn read_behind<P: Preparer>(
     preparer: &P,
     beside: Beside,
