@@ -81,7 +81,7 @@ def off_by_default(folder, log):
 def wrong_words(folder, log):
     refused = (2, "arrayd: wrong words")
     is_so("no address", ended(["--host", "x", disk(folder)], log=log.path), refused)
-    log.find("wrong_words", what="--host")
+    log.find("wrong_words", what="--host x")
     is_so("a hostile word", ended(["--no\n\x1b[2J", folder + "/disk"], log=log.path), refused)
     is_so("a variable", ended([folder + "/disk"], log=log.path, more={"ARRAYD_DEADLINE": "x"}), refused)
     log.find("wrong_words", what="ARRAYD_DEADLINE")

@@ -169,7 +169,8 @@ def each_cause(folder, log, deadline):
     fail = calls(folder)
     more = dict(fail.environment, **deadline)
     path = disk(folder)
-    fail.let("flock", errno.ENOLCK)
+    # the log's file takes the first one, and does without where it has none
+    fail.let("flock", errno.ENOLCK, times=2)
     is_so("no lock", ended([path], log=log.path, more=more), (1, "arrayd: cannot use unit 0"))
     log.find("cannot_use", unit="0", file="disk", disk=path, why="not_locked")
     unusable = (1, "arrayd: cannot use registration file 0")
