@@ -8,9 +8,9 @@ mod any_array;
 #[cfg(test)]
 mod ends;
 #[cfg(test)]
-mod events;
-#[cfg(test)]
 mod histories;
+#[cfg(test)]
+mod interleavings;
 #[cfg(test)]
 mod lanes;
 #[cfg(test)]
