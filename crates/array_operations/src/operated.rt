@@ -148,17 +148,6 @@ impl<R: Wait + Clock, D: Devices, N: Namings<Opened>> Operated<'_, R, D, N> {
         }
     }
 
-    // One who moves the units, and tells of it.
-    fn mover(&self) -> ToldMoves<'_, R, Mover<'_, D, N>>
-        ensures { result.mover.asked ≡ [] }
-    {
-        ToldMoves {
-            rt: self.rt,
-            log: self.log,
-            mover: Mover::new(self.controllers.units()),
-        }
-    }
-
     /// Brings a controller up, unit by unit: each that prefers it gets it as its owner, and it is active/non-optimized for each
     /// other at which it was unavailable. What it owns already stays as it is. The first unit that does not move is told; those
     /// behind it stay.
@@ -170,7 +159,12 @@ impl<R: Wait + Clock, D: Devices, N: Namings<Opened>> Operated<'_, R, D, N> {
                 *chosen = concerns(controller, place, row);
             }
         }
-        end_of(bring_up(self.rt, &mut self.mover(), &chosen))
+        let mut mover = ToldMoves {
+            rt: self.rt,
+            log: self.log,
+            mover: Mover::new(self.controllers.units()),
+        };
+        end_of(bring_up(self.rt, &mut mover, &chosen))
     }
 }
 
@@ -180,7 +174,12 @@ impl<R: Wait + Clock, D: Devices, N: Namings<Opened>> Operations for Operated<'_
     }
 
     fn down(&mut self, controller: Group) -> Result<(), usize> {
-        end_of(take_down(self.rt, &mut self.mover(), controller))
+        let mut mover = ToldMoves {
+            rt: self.rt,
+            log: self.log,
+            mover: Mover::new(self.controllers.units()),
+        };
+        end_of(take_down(self.rt, &mut mover, controller))
     }
 
     fn close(&mut self) {
