@@ -9,7 +9,7 @@ use Rattle.unit_history.specs.declared.new_unit.NewUnit.{NewUnit}
 use Rattle.unit_sequence.specs.declared.naming.Namings.{Ghosts as NamesOfUnits}
 
 -- the names of an array's units, as they are picked
-abbrev pub names_of : {S D B F O : Type 0} → (B → List (List ℕ)) → List (NewUnit D B F O) → NamesOfUnits S UnitState
+abbrev pub names_of : {S B F O : Type 0} → (B → List (List ℕ)) → List (NewUnit B F O) → NamesOfUnits S UnitState
 names_of contents units = record { book = book_of units; table = table_of units; opening = opening_of contents units }
 
 -- and those of its disks

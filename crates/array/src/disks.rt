@@ -7,7 +7,7 @@ use beside_disk::{
     Registrations, RegistrationsFault, UnitFileFault, UnitName, look_as, open_as,
     open_registrations,
 };
-use block_file::Blocks;
+use block_file::{Blocks, Opener};
 use command_line::{Fault, MAX_UNITS, Options};
 use disk_files::{
     Disk, DiskFault, DiskLock, FileBlocks, FileFault, FileLog, FileOpener, NamedBlocks, SystemFile,
@@ -23,30 +23,24 @@ use std::fs::File;
 use std::rt::Files;
 use std::sync::Wait;
 use std::time::Clock;
-use unit_history::{Devices, NewUnit};
+use unit_history::NewUnit;
 use unit_state::{Unit, laws};
 
 /// A unit over a file, with the registration file beside it.
 type FileUnit<R> = Unit<FileBlocks<SystemFile>, NamedBlocks<R>, FileOpener<R>>;
 
-/// What it stands on.
-type FileDevices<R> = (FileBlocks<SystemFile>, NamedBlocks<R>, FileOpener<R>);
-
 /// An array before it is served: its units, the preparers of their disks, and the locks of both files of each, for as long as it is
 /// served.
 #[derive(Drop)]
-pub struct OpenArray<D: Devices, P> {
-    pub units: Vec<NewUnit<D>>,
+pub struct OpenArray<B: Blocks, F: Blocks, O: Opener<B>, P> {
+    pub units: Vec<NewUnit<B, F, O>>,
     pub preparers: Vec<P>,
     pub locks: Vec<[DiskLock; 2]>,
 }
 
-impl<D: Devices, P: Preparer> OpenArray<D, P>
-where
-    D::Disk: OnDisk,
-{
+impl<B: Blocks + OnDisk, F: Blocks, O: Opener<B>, P: Preparer> OpenArray<B, F, O, P> {
     // An array of no units.
-    pub(crate) fn new(alloc: Global) -> OpenArray<D, P>
+    pub(crate) fn new(alloc: Global) -> OpenArray<B, F, O, P>
         ensures units { result.units.items ≡ [] }
         ensures preparers { result.preparers.items ≡ [] }
     {
@@ -61,15 +55,15 @@ where
     pub(crate) fn push(
         &mut self,
         alloc: Global,
-        unit: Unit<D::Disk, D::File, D::Reopener>,
+        unit: Unit<B, F, O>,
         preparer: P,
         locks: [DiskLock; 2],
     ) -> Result<(), Fault>
         requires opening { IsOpening unit.control }
-        requires disk { D.Disk.OnDisk.disk unit.device ≡ P.disk preparer }
-        requires disks { map (λ new. D.Disk.OnDisk.disk new.unit.device) self.old.units.items ≡ map P.disk self.old.preparers.items }
+        requires disk { B.OnDisk.disk unit.device ≡ P.disk preparer }
+        requires disks { map (λ new. B.OnDisk.disk new.unit.device) self.old.units.items ≡ map P.disk self.old.preparers.items }
         ensures disks { OnOk result (
-            map (λ new. D.Disk.OnDisk.disk new.unit.device) self.new.units.items ≡ map P.disk self.new.preparers.items) }
+            map (λ new. B.OnDisk.disk new.unit.device) self.new.units.items ≡ map P.disk self.new.preparers.items) }
         ensures count { OnOk result (length self.new.units.items ≡ length self.old.units.items + 1) }
     {
         self.units.push(NewUnit::new(alloc, unit)?)?;
@@ -80,7 +74,12 @@ where
 }
 
 /// One over files.
-pub type FileArray<R> = OpenArray<FileDevices<R>, FilePreparer<R, SystemFile>>;
+pub type FileArray<R> = OpenArray<
+    FileBlocks<SystemFile>,
+    NamedBlocks<R>,
+    FileOpener<R>,
+    FilePreparer<R, SystemFile>,
+>;
 
 // ENOENT, as Linux numbers it.
 const NO_ENTRY: u32 = 2;

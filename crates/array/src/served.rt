@@ -13,6 +13,7 @@ use array_administration::{
 };
 use array_operations::{AdministeredServer, Operated};
 use array_units::Units;
+use block_file::{Blocks, Opener};
 use command_line::{Fault, MAX_UNITS, Options};
 use disk_preparer::{OnDisk, Preparer};
 use event_log::Log;
@@ -33,7 +34,7 @@ use std::rt::Files;
 use std::sync::{Arc, Mutex, Wait};
 use std::thread::Threads;
 use std::time::Clock;
-use unit_history::{Devices, NewUnit, Opened};
+use unit_history::{NewUnit, Opened};
 use unit_sequence::Namings;
 
 // By what hosts find the array: the target's name, and where each controller's portals listen; and the log that is told.
@@ -73,36 +74,33 @@ type Lanes = ([Lane; 4], [Lane; 4]);
 
 // An array that is served, which its threads share.
 #[derive(Drop)]
-struct Served<'a, N: Namings<Opened>, D: Devices, G: Drop, R> {
+struct Served<'a, N: Namings<Opened>, B: Blocks, F: Blocks, O: Opener<B>, G: Drop, R> {
     rt: &'a R,
     alloc: Global,
-    server: Arc<Server<Controllers<D, N>, G>, Global>,
+    server: Arc<Server<Controllers<B, F, O, N>, G>, Global>,
 }
 
 impl<
     'a,
     N: Namings<Opened> + Send + Sync + 'static,
-    D: Devices + Send + Sync + 'static,
+    B: Blocks + Send + Sync + 'static,
+    F: Blocks + Send + Sync + 'static,
+    O: Opener<B> + Send + Sync + 'static,
     G: Gate + Drop + Send + Sync + 'static,
     R: Threads + Wait + Clock + RandomSource + Clone + Drop + Send + Sync + 'static,
-> Served<'a, N, D, G, R>
-where
-    D::Disk: Send + Sync + 'static,
-    D::File: Send + Sync + 'static,
-    D::Reopener: Send + Sync + 'static,
-{
+> Served<'a, N, B, F, O, G, R> {
     // These units behind this gate, as hosts find them.
     fn new(
         rt: &'a R,
         alloc: Global,
         found: Found,
-        units: Vec<NewUnit<D>>,
+        units: Vec<NewUnit<B, F, O>>,
         gate: G,
-    ) -> Result<Served<'a, N, D, G, R>, Fault>
-        requires named { IsNamed N.book N.table N.opening D.Disk.contents units.items }
+    ) -> Result<Served<'a, N, B, F, O, G, R>, Fault>
+        requires named { IsNamed N.book N.table N.opening B.contents units.items }
         requires count { length units.items ≤ MAX_UNITS }
     {
-        let units = Units::<D, N>::new(rt, alloc, units)?;
+        let units = Units::<B, F, O, N>::new(rt, alloc, units)?;
         let controllers = Controllers::new(alloc, units)?;
         let Found {
             target_name,
@@ -173,16 +171,16 @@ where
         options: &Options<'_>,
         portals: Vec<Portal>,
         found: Found,
-        units: Vec<NewUnit<D>>,
+        units: Vec<NewUnit<B, F, O>>,
         gate: G,
         sockets: Sockets,
         reader: I,
         writer: &mut C,
     ) -> Result<(), Fault>
-        requires named { IsNamed N.book N.table N.opening D.Disk.contents units.items }
+        requires named { IsNamed N.book N.table N.opening B.contents units.items }
         requires count { length units.items ≤ MAX_UNITS }
     {
-        let served = Served::<N, D, G, R>::new(rt, alloc, found, units, gate)?;
+        let served = Served::<N, B, F, O, G, R>::new(rt, alloc, found, units, gate)?;
         served.start(options, portals, sockets)?;
         let server = &served.server;
         server.log.tell(rt, &Event::Ready);
@@ -222,7 +220,9 @@ pub fn tell_want<R: Clock>(rt: &R, log: &Log, fault: Fault) {
 // Serves an array, as `serve` does, under the names that are given to its units and to their disks.
 fn serve_named<
     N: Namings<Opened> + Disks + Send + Sync + 'static,
-    D: Devices + Send + Sync + 'static,
+    B: Blocks + OnDisk + Send + Sync + 'static,
+    F: Blocks + Send + Sync + 'static,
+    O: Opener<B> + Send + Sync + 'static,
     P: Preparer + Send + Sync + 'static,
     R: Threads
         + Wait
@@ -241,19 +241,15 @@ fn serve_named<
     rt: &R,
     alloc: Global,
     options: &Options<'_>,
-    array: OpenArray<D, P>,
+    array: OpenArray<B, F, O, P>,
     log: &Log,
     administration: Option<Administration<'_>>,
     reader: I,
     writer: &mut C,
 ) -> Result<(), Fault>
-where
-    D::Disk: OnDisk + Send + Sync + 'static,
-    D::File: Send + Sync + 'static,
-    D::Reopener: Send + Sync + 'static,
-    requires named { IsNamed N.book N.table N.opening D.Disk.contents array.units.items }
+    requires named { IsNamed N.book N.table N.opening B.contents array.units.items }
     requires count { length array.units.items ≤ MAX_UNITS }
-    requires disks { AreOver (λ new. D.Disk.OnDisk.disk new.unit.device) N.disk array.units.items }
+    requires disks { AreOver (λ new. B.OnDisk.disk new.unit.device) N.disk array.units.items }
     requires prepared { AreOver P.disk N.disk array.preparers.items }
 {
     let OpenArray {
@@ -266,7 +262,7 @@ where
     let ended = match open(rt, log, administration) {
         Ok(sockets) => {
             let ended = match open_portals(rt, alloc, options, log) {
-                Ok((portals, found)) => Served::<N, D, Prepared<P, N>, R>::run(
+                Ok((portals, found)) => Served::<N, B, F, O, Prepared<P, N>, R>::run(
                     rt, alloc, options, portals, found, units, gate, sockets, reader, writer,
                 ),
                 Err(fault) => Err(fault),
@@ -290,7 +286,9 @@ where
 /// place is of the file that the unit there is over.
 #[tactic(auto, using(portal::specs::Disks::over_their_own, crate::proofs::Pairs::over_the_same))]
 pub fn serve<
-    D: Devices + Send + Sync + 'static,
+    B: Blocks + OnDisk + Send + Sync + 'static,
+    F: Blocks + Send + Sync + 'static,
+    O: Opener<B> + Send + Sync + 'static,
     P: Preparer + Send + Sync + 'static,
     R: Threads
         + Wait
@@ -309,20 +307,16 @@ pub fn serve<
     rt: &R,
     alloc: Global,
     options: &Options<'_>,
-    array: OpenArray<D, P>,
+    array: OpenArray<B, F, O, P>,
     log: &Log,
     administration: Option<Administration<'_>>,
     reader: I,
     writer: &mut C,
 ) -> Result<(), Fault>
-where
-    D::Disk: OnDisk + Send + Sync + 'static,
-    D::File: Send + Sync + 'static,
-    D::Reopener: Send + Sync + 'static,
     requires count { length array.units.items ≤ MAX_UNITS }
-    requires disks { map (λ new. D.Disk.OnDisk.disk new.unit.device) array.units.items ≡ map P.disk array.preparers.items }
+    requires disks { map (λ new. B.OnDisk.disk new.unit.device) array.units.items ≡ map P.disk array.preparers.items }
 {
-    serve_named::<Brand, D, P, R, I, C>(
+    serve_named::<Brand, B, F, O, P, R, I, C>(
         rt,
         alloc,
         options,

@@ -61,15 +61,13 @@ pub type FileParts<R> = Parts<
 // A unit whose calls have a deadline, over such parts.
 type TimedUnit<R, B, F, O> = Unit<Deadlined<R, B, O>, Deadlined<R, F, KeepOpener>, DeadlinedOpener>;
 
-// What it stands on.
-type TimedDevices<R, B, F, O> = (
+// An array of such units.
+type TimedArray<R, B, F, O, P> = OpenArray<
     Deadlined<R, B, O>,
     Deadlined<R, F, KeepOpener>,
     DeadlinedOpener,
-);
-
-// An array of such units.
-type TimedArray<R, B, F, O, P> = OpenArray<TimedDevices<R, B, F, O>, DeadlinedPreparer<R, P>>;
+    DeadlinedPreparer<R, P>,
+>;
 
 // Opens the files of the unit at this place, and locks them.
 fn open_parts<R: Files<File = File> + Clock + Wait + Clone + Drop>(

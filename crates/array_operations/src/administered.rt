@@ -4,6 +4,7 @@ use crate::operated::{Operated, row_at};
 use crate::registrations::registrations;
 use array_administration::{Administered, Operations, say_status};
 use array_view::Registration;
+use block_file::{Blocks, Opener};
 use event_log::Log;
 use portal::{Controllers, Server};
 use scsi_types::Group;
@@ -13,14 +14,14 @@ use std::io::{self, Write};
 use std::net::SocketAddrV4;
 use std::sync::{Arc, Wait};
 use std::time::Clock;
-use unit_history::{Devices, Opened};
+use unit_history::Opened;
 use unit_sequence::Namings;
 
 // As its console sees it.
-fn operated<'a, R: Wait + Clock, D: Devices, N: Namings<Opened>, G: Drop>(
+fn operated<'a, R: Wait + Clock, B: Blocks, F: Blocks, O: Opener<B>, N: Namings<Opened>, G: Drop>(
     rt: &'a R,
-    server: &'a Server<Controllers<D, N>, G>,
-) -> Operated<'a, R, D, N> {
+    server: &'a Server<Controllers<B, F, O, N>, G>,
+) -> Operated<'a, R, B, F, O, N> {
     Operated {
         rt,
         controllers: &server.device.units,
@@ -30,11 +31,12 @@ fn operated<'a, R: Wait + Clock, D: Devices, N: Namings<Opened>, G: Drop>(
 
 /// The server of an array, as what administers it asks. Several threads share it.
 #[derive(Drop)]
-pub struct AdministeredServer<D: Devices, N: Namings<Opened>, G: Drop> {
-    pub server: Arc<Server<Controllers<D, N>, G>, Global>,
+pub struct AdministeredServer<B: Blocks, F: Blocks, O: Opener<B>, N: Namings<Opened>, G: Drop> {
+    pub server: Arc<Server<Controllers<B, F, O, N>, G>, Global>,
 }
 
-impl<D: Devices, N: Namings<Opened>, G: Drop> Administered for AdministeredServer<D, N, G> {
+impl<B: Blocks, F: Blocks, O: Opener<B>, N: Namings<Opened>, G: Drop> Administered
+    for AdministeredServer<B, F, O, N, G> {
     fn log(&self) -> &Log {
         &self.server.log
     }

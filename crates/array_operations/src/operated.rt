@@ -4,6 +4,7 @@ ghost use Rattle.std.specs.Prelude.{◌≡◌, []};
 use access_states::Change;
 use array_administration::Operations;
 use array_units::Units;
+use block_file::{Blocks, Opener};
 use command_line::MAX_UNITS;
 use event_log::Log;
 use events::{Access, By, Event, Stayed};
@@ -13,7 +14,7 @@ use scsi_types::Group;
 use status::Row;
 use std::sync::Wait;
 use std::time::Clock;
-use unit_history::{Devices, Opened};
+use unit_history::Opened;
 use unit_sequence::Namings;
 use unit_state::MoveFault;
 
@@ -24,9 +25,9 @@ const UNAVAILABLE: u64 = 3;
 
 /// Both controllers, as the console sees them.
 #[derive(Drop)]
-pub struct Operated<'a, R: Wait + Clock, D: Devices, N: Namings<Opened>> {
+pub struct Operated<'a, R: Wait + Clock, B: Blocks, F: Blocks, O: Opener<B>, N: Namings<Opened>> {
     pub rt: &'a R,
-    pub controllers: &'a Controllers<D, N>,
+    pub controllers: &'a Controllers<B, F, O, N>,
     /// What happens is told to it.
     pub log: &'a Log,
 }
@@ -129,9 +130,9 @@ fn end_of(end: Result<(), NotMoved>) -> Result<(), usize> {
 }
 
 /// The row of the unit at a place, where there is one.
-pub(crate) fn row_at<R: Wait, D: Devices, N: Namings<Opened>>(
+pub(crate) fn row_at<R: Wait, B: Blocks, F: Blocks, O: Opener<B>, N: Namings<Opened>>(
     rt: &R,
-    units: &Units<D, N>,
+    units: &Units<B, F, O, N>,
     place: usize,
 ) -> Option<Row> {
     if place >= units.count() {
@@ -140,11 +141,29 @@ pub(crate) fn row_at<R: Wait, D: Devices, N: Namings<Opened>>(
     Some(units.read(rt, place))
 }
 
-impl<R: Wait + Clock, D: Devices, N: Namings<Opened>> Operated<'_, R, D, N> {
+impl<R: Wait + Clock, B: Blocks, F: Blocks, O: Opener<B>, N: Namings<Opened>> Operated<
+    '_,
+    R,
+    B,
+    F,
+    O,
+    N,
+> {
     // Tells of the end of the array: once, where an administrator has ended it by the control socket.
     fn tell_end(&self, event: &Event<'_>) {
         if !self.log.has_quit() {
             self.log.tell(self.rt, event);
+        }
+    }
+
+    // One who moves the units, and tells of it.
+    fn mover(&self) -> ToldMoves<'_, R, Mover<'_, B, F, O, N>>
+        ensures { result.mover.asked ≡ [] }
+    {
+        ToldMoves {
+            rt: self.rt,
+            log: self.log,
+            mover: Mover::new(self.controllers.units()),
         }
     }
 
@@ -159,27 +178,18 @@ impl<R: Wait + Clock, D: Devices, N: Namings<Opened>> Operated<'_, R, D, N> {
                 *chosen = concerns(controller, place, row);
             }
         }
-        let mut mover = ToldMoves {
-            rt: self.rt,
-            log: self.log,
-            mover: Mover::new(self.controllers.units()),
-        };
-        end_of(bring_up(self.rt, &mut mover, &chosen))
+        end_of(bring_up(self.rt, &mut self.mover(), &chosen))
     }
 }
 
-impl<R: Wait + Clock, D: Devices, N: Namings<Opened>> Operations for Operated<'_, R, D, N> {
+impl<R: Wait + Clock, B: Blocks, F: Blocks, O: Opener<B>, N: Namings<Opened>> Operations
+    for Operated<'_, R, B, F, O, N> {
     fn status(&mut self, unit: u8) -> Option<Row> {
         row_at(self.rt, self.controllers.units(), usize::from(unit))
     }
 
     fn down(&mut self, controller: Group) -> Result<(), usize> {
-        let mut mover = ToldMoves {
-            rt: self.rt,
-            log: self.log,
-            mover: Mover::new(self.controllers.units()),
-        };
-        end_of(take_down(self.rt, &mut mover, controller))
+        end_of(take_down(self.rt, &mut self.mover(), controller))
     }
 
     fn close(&mut self) {

@@ -2,10 +2,11 @@
 
 use array_units::Units;
 use array_view::Registration;
+use block_file::{Blocks, Opener};
 use registrants::{Registrant, Reservation};
 use reservations::Registry;
 use std::alloc::{AllocError, Global};
-use unit_history::{Devices, Opened};
+use unit_history::Opened;
 use unit_sequence::Namings;
 
 // The type of the reservation, where this registrant holds it (SPC-4, 5.13.9): of types 7 and 8 every registrant does.
@@ -54,9 +55,9 @@ fn all_of(alloc: Global, registry: &Registry) -> Result<Vec<Registration>, Alloc
 }
 
 /// Those of the unit at a place. None: there is no such unit, a command has the unit for long, or there was no memory.
-pub(crate) fn registrations<D: Devices, N: Namings<Opened>>(
+pub(crate) fn registrations<B: Blocks, F: Blocks, O: Opener<B>, N: Namings<Opened>>(
     alloc: Global,
-    units: &Units<D, N>,
+    units: &Units<B, F, O, N>,
     place: usize,
 ) -> Option<Vec<Registration>> {
     if place >= units.count() {

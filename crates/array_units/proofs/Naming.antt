@@ -11,8 +11,8 @@ use Rattle.unit_history.specs.declared.new_unit.NewUnit.{NewUnit}
 use Rattle.unit_history.specs.Naming.{IsNamed, IsNamedAt, book_in, table_in, opening_in}
 use Rattle.array_units.specs.Places.{AreInOrder, place_of}
 
-module _ {D B R O : Type 0} (book : ℕ → Book) (table : ℕ → TableId) (opening : ℕ → UnitState) (contents : B → List (List ℕ)) where
-  pub named_at : (units : List (NewUnit D B R O)) (place : ℕ) (new : NewUnit D B R O) → IsNamed book table opening contents units
+module _ {B R O : Type 0} (book : ℕ → Book) (table : ℕ → TableId) (opening : ℕ → UnitState) (contents : B → List (List ℕ)) where
+  pub named_at : (units : List (NewUnit B R O)) (place : ℕ) (new : NewUnit B R O) → IsNamed book table opening contents units
       → slice_get units place ≡ Some new → IsNamedAt book table opening contents place new
   named_at units place new n h = record {
     book_is = sym (ap (λ (f : ℕ → Book). f place) n.book_is ∙ ap book_in h);
@@ -42,7 +42,7 @@ at_end [] a b (suc j) h = absurd (cc)
 at_end (x ∷ xs) a b zero h = inl h
 at_end (x ∷ xs) a b (suc j) h = ⊎_elim inl (λ t. inr (ap suc t.0, t.1)) (at_end xs a b j h)
 
-pub pushed : {D N B R O : Type 0} (units : List (CachePadded (AnyUnit D N B R O))) (unit : CachePadded (AnyUnit D N B R O))
+pub pushed : {B R O N : Type 0} (units : List (CachePadded (AnyUnit B R O N))) (unit : CachePadded (AnyUnit B R O N))
     → AreInOrder units → place_of (padded_value unit) ≡ length units → AreInOrder (units ++ unit ∷ [])
 pushed units unit order is = λ place u h.
     ⊎_elim (λ (was : slice_get units place ≡ Some u). order place u was)
@@ -50,10 +50,10 @@ pushed units unit order is = λ place u h.
     ∙ (is ∙ sym t.0))
     (at_end units unit u place h)
 
-pub placed : {D N B R O : Type 0} (units new : List (CachePadded (AnyUnit D N B R O))) (unit : CachePadded (AnyUnit D N B R O))
+pub placed : {B R O N : Type 0} (units new : List (CachePadded (AnyUnit B R O N))) (unit : CachePadded (AnyUnit B R O N))
     (place : ℕ) → new ≡ units ++ unit ∷ [] → length units ≡ place → AreInOrder units
     → place_of (padded_value unit) ≡ place → (length new ≡ place + 1) × AreInOrder new
 placed units new unit place is len order at = (
   ap length is ∙ (length-append units (unit ∷ []) ∙ ap (λ (n : ℕ). n + 1) len),
-  subst (λ (l : List (CachePadded (AnyUnit _ _ _ _ _))). AreInOrder l) (sym is) (pushed units unit order (at ∙ sym len)),
+  subst (λ (l : List (CachePadded (AnyUnit _ _ _ _))). AreInOrder l) (sym is) (pushed units unit order (at ∙ sym len)),
 )

@@ -10,7 +10,7 @@ ghost use Rattle.array_units.specs.Rows.{IsRead};
 
 use crate::any_unit::{AnyUnit, Seated};
 use access_states::Change;
-use block_file::{DeviceFailed, ReplyMemory};
+use block_file::{Blocks, DeviceFailed, Opener, ReplyMemory};
 use crossbeam_utils::CachePadded;
 use reservations::Registry;
 use scsi_types::{Asked, Group, NoMemory, PortName, Reply};
@@ -18,7 +18,7 @@ use status::Row;
 use std::alloc::Global;
 use std::marker::Model;
 use std::sync::{Mutex, Wait};
-use unit_history::{Devices, LegalHistory, NewUnit, Opened, Pass, SharedUnit};
+use unit_history::{LegalHistory, NewUnit, Opened, Pass, SharedUnit};
 use unit_lock::Refused;
 use unit_sequence::Namings;
 use unit_state::MoveFault;
@@ -28,17 +28,17 @@ pub const MOST_UNITS: usize = 8;
 
 /// Units 0 to n-1 of an array, which all threads share, none on a cache line of another. Contracts see how many there
 /// are.
-pub struct Units<D: Devices, N: Namings<Opened>> {
-    units: Vec<CachePadded<AnyUnit<D, N>>>,
+pub struct Units<B: Blocks, F: Blocks, O: Opener<B>, N: Namings<Opened>> {
+    units: Vec<CachePadded<AnyUnit<B, F, O, N>>>,
 }
 
-impl<D: Devices, N: Namings<Opened>> Drop for Units<D, N> {
+impl<B: Blocks, F: Blocks, O: Opener<B>, N: Namings<Opened>> Drop for Units<B, F, O, N> {
     fn drop(self) {
         let Self { units: _ } = self;
     }
 }
 
-impl<D: Devices, N: Namings<Opened>> Model for Units<D, N> {
+impl<B: Blocks, F: Blocks, O: Opener<B>, N: Namings<Opened>> Model for Units<B, F, O, N> {
     ghost use Rattle.std.specs.Prelude.{ℕ, ◌≤◌, length};
     ghost use Rattle.array_units.specs.Places.{AreInOrder};
 
@@ -50,12 +50,12 @@ impl<D: Devices, N: Namings<Opened>> Model for Units<D, N> {
 }
 
 /// The unit at a place under its name, with a reader's seat at its board.
-fn seated<D: Devices, N: Namings<Opened>, const U: usize, W: Wait>(
+fn seated<B: Blocks, F: Blocks, O: Opener<B>, N: Namings<Opened>, const U: usize, W: Wait>(
     rt: &W,
     alloc: Global,
-    new: NewUnit<D>,
-) -> Result<Seated<D, N, U>, NoMemory>
-    requires { IsNamedAt N.book N.table N.opening D.Disk.contents U new }
+    new: NewUnit<B, F, O>,
+) -> Result<Seated<B, F, O, N, U>, NoMemory>
+    requires { IsNamedAt N.book N.table N.opening B.contents U new }
 {
     let (unit, mut seats) = SharedUnit::new(rt, alloc, new, 1)?;
     let Some(seat) = seats.pop() else {
@@ -68,13 +68,13 @@ fn seated<D: Devices, N: Namings<Opened>, const U: usize, W: Wait>(
 }
 
 /// The unit at a place that is known when it runs.
-fn any_seated<D: Devices, N: Namings<Opened>, W: Wait>(
+fn any_seated<B: Blocks, F: Blocks, O: Opener<B>, N: Namings<Opened>, W: Wait>(
     rt: &W,
     alloc: Global,
     place: usize,
-    new: NewUnit<D>,
-) -> Result<AnyUnit<D, N>, NoMemory>
-    requires named { IsNamedAt N.book N.table N.opening D.Disk.contents place new }
+    new: NewUnit<B, F, O>,
+) -> Result<AnyUnit<B, F, O, N>, NoMemory>
+    requires named { IsNamedAt N.book N.table N.opening B.contents place new }
     requires place { place < 8 }
     ensures { IfOk result (λ unit. place_of unit ≡ place) }
 {
@@ -92,13 +92,13 @@ fn any_seated<D: Devices, N: Namings<Opened>, W: Wait>(
 }
 
 /// Puts the next unit under its name behind those that are there. Refused, it is dropped.
-fn seat_next<D: Devices, N: Namings<Opened>, W: Wait>(
+fn seat_next<B: Blocks, F: Blocks, O: Opener<B>, N: Namings<Opened>, W: Wait>(
     rt: &W,
     alloc: Global,
-    units: &mut Vec<CachePadded<AnyUnit<D, N>>>,
-    new: NewUnit<D>,
+    units: &mut Vec<CachePadded<AnyUnit<B, F, O, N>>>,
+    new: NewUnit<B, F, O>,
 ) -> Result<(), NoMemory>
-    requires named { IsNamedAt N.book N.table N.opening D.Disk.contents (length units.old.items) new }
+    requires named { IsNamedAt N.book N.table N.opening B.contents (length units.old.items) new }
     requires place { length units.old.items < 8 }
     requires order { AreInOrder units.old.items }
     ensures order { OnOk result (AreInOrder units.new.items) }
@@ -109,14 +109,14 @@ fn seat_next<D: Devices, N: Namings<Opened>, W: Wait>(
     Ok(())
 }
 
-impl<D: Devices, N: Namings<Opened>> Units<D, N> {
+impl<B: Blocks, F: Blocks, O: Opener<B>, N: Namings<Opened>> Units<B, F, O, N> {
     /// These units under their names, in their order. Refused, they are dropped.
     pub fn new<W: Wait>(
         rt: &W,
         alloc: Global,
-        new: Vec<NewUnit<D>>,
-    ) -> Result<Units<D, N>, NoMemory>
-        requires named { IsNamed N.book N.table N.opening D.Disk.contents new.items }
+        new: Vec<NewUnit<B, F, O>>,
+    ) -> Result<Units<B, F, O, N>, NoMemory>
+        requires named { IsNamed N.book N.table N.opening B.contents new.items }
         requires count { length new.items ≤ 8 }
         ensures { IfOk result (λ units. units ≡ length new.items) }
     {
@@ -137,7 +137,7 @@ impl<D: Devices, N: Namings<Opened>> Units<D, N> {
     }
 
     /// The unit at a place.
-    fn at(&self, place: usize) -> &AnyUnit<D, N>
+    fn at(&self, place: usize) -> &AnyUnit<B, F, O, N>
         requires { place < self.now }
         ensures { place_of result.now ≡ place }
     {
@@ -151,12 +151,12 @@ impl<D: Devices, N: Namings<Opened>> Units<D, N> {
         place: usize,
         port: PortName,
         group: Group,
-    ) -> Result<Pass<D, N>, LegalHistory<D, N>>
+    ) -> Result<Pass<B, F, O, N>, LegalHistory<B, F, O, N>>
         requires place { place < self.now }
         ensures attached { IfOk result (λ p. (p.place ≡ place)
-            × HasAttached (D.Reopener.claims && D.Disk.claims) (N.opening place) (through port group) p.pass) }
+            × HasAttached (O.claims && B.claims) (N.opening place) (through port group) p.pass) }
         ensures full { IfErr result (λ f. (f.0 ≡ place)
-            × HasNoRoom (D.Reopener.claims && D.Disk.claims) (N.opening place) (through port group) f.1) }
+            × HasNoRoom (O.claims && B.claims) (N.opening place) (through port group) f.1) }
     {
         self.at(place).attach(rt, port, group)
     }
@@ -165,32 +165,32 @@ impl<D: Devices, N: Namings<Opened>> Units<D, N> {
     pub fn serve<W: Wait>(
         &self,
         rt: &W,
-        pass: Pass<D, N>,
+        pass: Pass<B, F, O, N>,
         room: ReplyMemory,
         by_group: &Group,
         asked: &Asked,
         bytes: &[u8],
-    ) -> (Pass<D, N>, Result<Reply, Refused<Group>>)
+    ) -> (Pass<B, F, O, N>, Result<Reply, Refused<Group>>)
         requires { pass.place < self.now }
         ensures place { result.0.place ≡ pass.place }
-        ensures served { IfOk result.1 (λ reply. HasServed (D.Reopener.claims && D.Disk.claims) (N.opening pass.place)
-            pass.pass result.0.pass by_group.now asked.now bytes.now reply) }
-        ensures worked { IfOk result.1 (λ reply. HasWorked (devices D.Disk.Blocks D.File.Blocks D.Reopener.Opener)
-            (N.opening pass.place) pass.pass.session asked.now bytes.now reply result.0.pass.seen) }
-        ensures refused { IfErr result.1 (λ why. HasRefused (D.Reopener.claims && D.Disk.claims) (N.opening pass.place)
-            pass.pass result.0.pass by_group.now asked.now bytes.now why) }
+        ensures served { IfOk result.1 (λ reply. HasServed (O.claims && B.claims) (N.opening pass.place) pass.pass
+            result.0.pass by_group.now asked.now bytes.now reply) }
+        ensures worked { IfOk result.1 (λ reply. HasWorked (devices B.Blocks F.Blocks O.Opener) (N.opening pass.place)
+            pass.pass.session asked.now bytes.now reply result.0.pass.seen) }
+        ensures refused { IfErr result.1 (λ why. HasRefused (O.claims && B.claims) (N.opening pass.place) pass.pass
+            result.0.pass by_group.now asked.now bytes.now why) }
     {
         let place = pass.place();
         self.at(place).serve(rt, pass, room, by_group, asked, bytes)
     }
 
     /// Resets the unit of the session, as [`unit_history::SharedUnit::reset`].
-    pub fn reset<W: Wait>(&self, rt: &W, pass: Pass<D, N>) -> (Pass<D, N>, bool)
+    pub fn reset<W: Wait>(&self, rt: &W, pass: Pass<B, F, O, N>) -> (Pass<B, F, O, N>, bool)
         requires { pass.place < self.now }
         ensures place { result.0.place ≡ pass.place }
         ensures done { MatchBool result.1
-            (HasReset (D.Reopener.claims && D.Disk.claims) (N.opening pass.place) pass.pass result.0.pass)
-            (WasGone (D.Reopener.claims && D.Disk.claims) (N.opening pass.place) pass.pass result.0.pass) }
+            (HasReset (O.claims && B.claims) (N.opening pass.place) pass.pass result.0.pass)
+            (WasGone (O.claims && B.claims) (N.opening pass.place) pass.pass result.0.pass) }
     {
         let place = pass.place();
         self.at(place).reset(rt, pass)
@@ -200,13 +200,13 @@ impl<D: Devices, N: Namings<Opened>> Units<D, N> {
     pub fn retire<W: Wait>(
         &self,
         rt: &W,
-        pass: Pass<D, N>,
-    ) -> Result<LegalHistory<D, N>, Pass<D, N>>
+        pass: Pass<B, F, O, N>,
+    ) -> Result<LegalHistory<B, F, O, N>, Pass<B, F, O, N>>
         requires { pass.place < self.now }
         ensures done { IfOk result (λ f. (f.0 ≡ pass.place)
-            × HasRetired (D.Reopener.claims && D.Disk.claims) (N.opening pass.place) pass.pass f.1) }
+            × HasRetired (O.claims && B.claims) (N.opening pass.place) pass.pass f.1) }
         ensures gone { IfErr result (λ p. (p.place ≡ pass.place)
-            × WasGone (D.Reopener.claims && D.Disk.claims) (N.opening pass.place) pass.pass p.pass) }
+            × WasGone (O.claims && B.claims) (N.opening pass.place) pass.pass p.pass) }
     {
         let place = pass.place();
         self.at(place).retire(rt, pass)
@@ -218,13 +218,13 @@ impl<D: Devices, N: Namings<Opened>> Units<D, N> {
         rt: &W,
         place: usize,
         list: &[u8],
-    ) -> (LegalHistory<D, N>, Result<Change, MoveFault>)
+    ) -> (LegalHistory<B, F, O, N>, Result<Change, MoveFault>)
         requires { place < self.now }
         ensures place { result.0.0 ≡ place }
         ensures moved { IfOk result.1 (λ told.
-            HasMoved (devices D.Disk.Blocks D.File.Blocks D.Reopener.Opener) (N.opening place) list.now result.0.1 told) }
+            HasMoved (devices B.Blocks F.Blocks O.Opener) (N.opening place) list.now result.0.1 told) }
         ensures stays { IfErr result.1 (λ why.
-            HasStayed (devices D.Disk.Blocks D.File.Blocks D.Reopener.Opener) (N.opening place) list.now result.0.1 why) }
+            HasStayed (devices B.Blocks F.Blocks O.Opener) (N.opening place) list.now result.0.1 why) }
     {
         self.at(place).move_to(rt, list)
     }
@@ -232,7 +232,7 @@ impl<D: Devices, N: Namings<Opened>> Units<D, N> {
     /// Another value of the registry of the unit at a place, as [`unit_history::SharedUnit::registry`].
     pub fn registry(&self, place: usize) -> Option<Registry>
         requires { place < self.now }
-        ensures { IfSome result (IsRegistry (D.Reopener.claims && D.Disk.claims) (N.opening place)) }
+        ensures { IfSome result (IsRegistry (O.claims && B.claims) (N.opening place)) }
     {
         self.at(place).registry()
     }
@@ -240,7 +240,7 @@ impl<D: Devices, N: Namings<Opened>> Units<D, N> {
     /// Makes what was written to the unit at a place last, as [`unit_history::SharedUnit::flush`].
     pub fn flush<W: Wait>(&self, rt: &W, place: usize) -> Result<(), DeviceFailed>
         requires { place < self.now }
-        ensures { HasFlushed (devices D.Disk.Blocks D.File.Blocks D.Reopener.Opener) (N.opening place) result }
+        ensures { HasFlushed (devices B.Blocks F.Blocks O.Opener) (N.opening place) result }
     {
         self.at(place).flush(rt)
     }
@@ -249,7 +249,7 @@ impl<D: Devices, N: Namings<Opened>> Units<D, N> {
     /// seat had read before. It does not wait for the unit's lock.
     pub fn read<W: Wait>(&self, rt: &W, place: usize) -> Row
         requires { place < self.now }
-        ensures { IsRead (D.Reopener.claims && D.Disk.claims) (N.opening place) place result }
+        ensures { IsRead (O.claims && B.claims) (N.opening place) place result }
     {
         self.at(place).read(rt)
     }

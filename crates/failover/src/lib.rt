@@ -11,11 +11,12 @@ mod up;
 
 use access_states::Change;
 use array_units::Units;
+use block_file::{Blocks, Opener};
 pub use mover::{GroupsList, Mover, Moves};
 use scsi_types::Group;
 use std::sync::Wait;
 pub use unit_control::preferred;
-use unit_history::{Devices, LegalHistory, Opened};
+use unit_history::{LegalHistory, Opened};
 use unit_sequence::Namings;
 use unit_state::MoveFault;
 pub use up::bring_up;
@@ -43,18 +44,18 @@ fn down_list(controller: Group) -> GroupsList
 /// Moves the unit at a place as a parameter list of SET TARGET PORT GROUPS says (SPC-4, 6.45), or tells why it stays. The
 /// change counts as implicit (SPC-4, 5.15.2.8): every attached session hears of it. Where the blocks cannot be opened for the
 /// new owner, the unit is as it was.
-pub fn set_groups<D: Devices, N: Namings<Opened>, W: Wait>(
+pub fn set_groups<B: Blocks, F: Blocks, O: Opener<B>, N: Namings<Opened>, W: Wait>(
     rt: &W,
-    units: &Units<D, N>,
+    units: &Units<B, F, O, N>,
     place: usize,
     list: &[u8],
-) -> (LegalHistory<D, N>, Result<Change, MoveFault>)
+) -> (LegalHistory<B, F, O, N>, Result<Change, MoveFault>)
     requires { place < units.now }
     ensures place { result.0.0 ≡ place }
     ensures moved { IfOk result.1 (λ told.
-        HasMoved (devices D.Disk.Blocks D.File.Blocks D.Reopener.Opener) (N.opening place) list.now result.0.1 told) }
+        HasMoved (devices B.Blocks F.Blocks O.Opener) (N.opening place) list.now result.0.1 told) }
     ensures stays { IfErr result.1 (λ why.
-        HasStayed (devices D.Disk.Blocks D.File.Blocks D.Reopener.Opener) (N.opening place) list.now result.0.1 why) }
+        HasStayed (devices B.Blocks F.Blocks O.Opener) (N.opening place) list.now result.0.1 why) }
 {
     units.move_to(rt, place, list)
 }

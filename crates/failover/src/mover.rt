@@ -5,9 +5,10 @@ ghost use Rattle.failover.specs.Mover.{Move};
 use crate::set_groups;
 use access_states::Change;
 use array_units::{MOST_UNITS, Units};
+use block_file::{Blocks, Opener};
 use std::marker::Model;
 use std::sync::Wait;
-use unit_history::{Devices, LegalHistory, Opened};
+use unit_history::{LegalHistory, Opened};
 use unit_sequence::Namings;
 use unit_state::MoveFault;
 
@@ -46,13 +47,13 @@ pub trait Moves {
 
 /// A move that was asked, as it is kept: also one that was not done.
 #[derive(Drop)]
-struct Asked<D: Devices, N: Namings<Opened>> {
+struct Asked<B: Blocks, F: Blocks, O: Opener<B>, N: Namings<Opened>> {
     list: GroupsList,
-    seen: LegalHistory<D, N>,
+    seen: LegalHistory<B, F, O, N>,
     end: Result<Change, MoveFault>,
 }
 
-impl<D: Devices, N: Namings<Opened>> Model for Asked<D, N> {
+impl<B: Blocks, F: Blocks, O: Opener<B>, N: Namings<Opened>> Model for Asked<B, F, O, N> {
     ghost use Rattle.failover.specs.Mover.{Move};
 
     ghost Value = { Move };
@@ -63,12 +64,12 @@ impl<D: Devices, N: Namings<Opened>> Model for Asked<D, N> {
 /// Moves that were asked, the first first. It has room for eight, one for each of `MOST_UNITS`. Nothing reads them: contracts say by
 /// them what was moved, and what not.
 #[derive(Drop)]
-struct Kept<D: Devices, N: Namings<Opened>> {
-    moves: [Option<Asked<D, N>>; MOST_UNITS],
+struct Kept<B: Blocks, F: Blocks, O: Opener<B>, N: Namings<Opened>> {
+    moves: [Option<Asked<B, F, O, N>>; MOST_UNITS],
     count: usize,
 }
 
-impl<D: Devices, N: Namings<Opened>> Model for Kept<D, N> {
+impl<B: Blocks, F: Blocks, O: Opener<B>, N: Namings<Opened>> Model for Kept<B, F, O, N> {
     ghost use Rattle.std.specs.Prelude.{◌≡◌, List, length};
     ghost use Rattle.failover.specs.Mover.{AreFirst, Move, kept_in};
 
@@ -79,9 +80,9 @@ impl<D: Devices, N: Namings<Opened>> Model for Kept<D, N> {
     ghost invariant = { λ k. (length k.moves ≡ 8) × AreFirst k.moves × (k.count ≡ length (kept_in k.moves)) };
 }
 
-impl<D: Devices, N: Namings<Opened>> Kept<D, N> {
+impl<B: Blocks, F: Blocks, O: Opener<B>, N: Namings<Opened>> Kept<B, F, O, N> {
     // With no move.
-    fn new() -> Kept<D, N>
+    fn new() -> Kept<B, F, O, N>
         ensures { result ≡ [] }
     {
         Kept {
@@ -91,7 +92,7 @@ impl<D: Devices, N: Namings<Opened>> Kept<D, N> {
     }
 
     // Keeps one more.
-    fn push(&mut self, asked: Asked<D, N>)
+    fn push(&mut self, asked: Asked<B, F, O, N>)
         requires { length self.old < 8 }
         ensures { self.new ≡ self.old ++ asked ∷ [] }
     {
@@ -101,18 +102,18 @@ impl<D: Devices, N: Namings<Opened>> Kept<D, N> {
 }
 
 /// Moves the units of an array, and keeps each move that is asked. It takes no memory.
-pub struct Mover<'a, D: Devices, N: Namings<Opened>> {
-    units: &'a Units<D, N>,
-    kept: Kept<D, N>,
+pub struct Mover<'a, B: Blocks, F: Blocks, O: Opener<B>, N: Namings<Opened>> {
+    units: &'a Units<B, F, O, N>,
+    kept: Kept<B, F, O, N>,
 }
 
-impl<D: Devices, N: Namings<Opened>> Drop for Mover<'_, D, N> {
+impl<B: Blocks, F: Blocks, O: Opener<B>, N: Namings<Opened>> Drop for Mover<'_, B, F, O, N> {
     fn drop(self) {
         let Self { units: _, kept: _ } = self;
     }
 }
 
-impl<'a, D: Devices, N: Namings<Opened>> Model for Mover<'a, D, N> {
+impl<'a, B: Blocks, F: Blocks, O: Opener<B>, N: Namings<Opened>> Model for Mover<'a, B, F, O, N> {
     ghost use Rattle.failover.specs.Mover.{MoverValue};
 
     ghost Value = { MoverValue };
@@ -120,9 +121,9 @@ impl<'a, D: Devices, N: Namings<Opened>> Model for Mover<'a, D, N> {
     ghost view = { λ m. record { unit_count = m.units.now; asked = m.kept } };
 }
 
-impl<'a, D: Devices, N: Namings<Opened>> Mover<'a, D, N> {
+impl<'a, B: Blocks, F: Blocks, O: Opener<B>, N: Namings<Opened>> Mover<'a, B, F, O, N> {
     /// One by which no move was asked yet.
-    pub fn new(units: &'a Units<D, N>) -> Mover<'a, D, N>
+    pub fn new(units: &'a Units<B, F, O, N>) -> Mover<'a, B, F, O, N>
         ensures unit_count { result.unit_count ≡ units.now }
         ensures asked { result.asked ≡ [] }
     {
@@ -133,7 +134,7 @@ impl<'a, D: Devices, N: Namings<Opened>> Mover<'a, D, N> {
     }
 }
 
-impl<'a, D: Devices, N: Namings<Opened>> Moves for Mover<'a, D, N> {
+impl<'a, B: Blocks, F: Blocks, O: Opener<B>, N: Namings<Opened>> Moves for Mover<'a, B, F, O, N> {
     ghost use Rattle.unit_entries.specs.Devices.{devices};
     ghost use Rattle.failover.specs.Mover.{IsMoveMade};
 
@@ -141,7 +142,7 @@ impl<'a, D: Devices, N: Namings<Opened>> Moves for Mover<'a, D, N> {
 
     ghost asked = { λ m. m.asked };
 
-    ghost made = { IsMoveMade (devices D.Disk.Blocks D.File.Blocks D.Reopener.Opener) N.opening };
+    ghost made = { IsMoveMade (devices B.Blocks F.Blocks O.Opener) N.opening };
 
     fn count(&self) -> usize {
         self.units.count()

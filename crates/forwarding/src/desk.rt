@@ -7,7 +7,7 @@ ghost use Rattle.unit_entries.specs.Devices.{devices};
 use crate::job::{Answer, Job, Ticket, Waiting, prepare};
 use crate::queue::{NotQueued, Queue};
 use array_units::Units;
-use block_file::ReplyMemory;
+use block_file::{Blocks, Opener, ReplyMemory};
 use crossbeam_utils::CachePadded;
 use scsi_types::{Asked, Group, NoMemory, Reply};
 use std::alloc::Global;
@@ -15,7 +15,7 @@ use std::marker::Model;
 use std::sync::atomic::{AtomicBool, AtomicU64, Ordering};
 use std::sync::{Condvar, Mutex, Wait};
 use thiserror::Error;
-use unit_history::{Devices, Opened, Pass, Refused};
+use unit_history::{Opened, Pass, Refused};
 use unit_sequence::Namings;
 
 /// Longer data is not copied for a desk: the worker that it came to serves its command at once, past those that wait.
@@ -41,17 +41,17 @@ pub enum DeskFault {
 /// The desk of a controller, by way of which the workers of both controllers' sessions have commands served of the units that
 /// the controller owns: past its queue, or as jobs in it, which the lanes of the controller serve, or the workers that put them
 /// there. What waits stands on a cache line of its own. Contracts see the controller's group.
-pub struct Desk<D: Devices, N: Namings<Opened>> {
+pub struct Desk<B: Blocks, F: Blocks, O: Opener<B>, N: Namings<Opened>> {
     group: Group,
     // Whether the queue is closed, for those who do not ask it.
     is_closed: AtomicBool,
     // How many workers serve a command with short data past the queue now, or look whether they may.
     at_once: CachePadded<AtomicU64>,
-    queue: CachePadded<Mutex<Queue<Waiting<D, N>>>>,
+    queue: CachePadded<Mutex<Queue<Waiting<B, F, O, N>>>>,
     filled: Condvar,
 }
 
-impl<D: Devices, N: Namings<Opened>> Drop for Desk<D, N> {
+impl<B: Blocks, F: Blocks, O: Opener<B>, N: Namings<Opened>> Drop for Desk<B, F, O, N> {
     fn drop(self) {
         let Self {
             group: _,
@@ -63,7 +63,7 @@ impl<D: Devices, N: Namings<Opened>> Drop for Desk<D, N> {
     }
 }
 
-impl<D: Devices, N: Namings<Opened>> Model for Desk<D, N> {
+impl<B: Blocks, F: Blocks, O: Opener<B>, N: Namings<Opened>> Model for Desk<B, F, O, N> {
     ghost use Rattle.scsi_types.specs.declared.names.Group.{Group};
 
     ghost Value = { Group };
@@ -72,9 +72,9 @@ impl<D: Devices, N: Namings<Opened>> Model for Desk<D, N> {
 }
 
 // Where the ticket's job waits.
-fn index_of<D: Devices, N: Namings<Opened>>(
-    queue: &Queue<Waiting<D, N>>,
-    ticket: &Ticket<'_, D, N>,
+fn index_of<B: Blocks, F: Blocks, O: Opener<B>, N: Namings<Opened>>(
+    queue: &Queue<Waiting<B, F, O, N>>,
+    ticket: &Ticket<'_, B, F, O, N>,
 ) -> Option<usize>
     ensures { IfSome result (λ at. IfSome (slice_get queue.now.items at) (λ waiting.
         handed_of waiting.pass ticket.now.names.asked ticket.now.data_in ticket.now.names.by_group ≡ ticket.now)) }
@@ -88,9 +88,9 @@ fn index_of<D: Devices, N: Namings<Opened>>(
     None
 }
 
-impl<D: Devices, N: Namings<Opened>> Desk<D, N> {
+impl<B: Blocks, F: Blocks, O: Opener<B>, N: Namings<Opened>> Desk<B, F, O, N> {
     /// The desk of a group, with 64 places, which are taken now.
-    pub fn new(alloc: Global, group: Group) -> Result<Desk<D, N>, NoMemory>
+    pub fn new(alloc: Global, group: Group) -> Result<Desk<B, F, O, N>, NoMemory>
         ensures { IfOk result (λ desk. desk ≡ group) }
     {
         let Ok(queue) = Queue::new(alloc) else {
@@ -116,8 +116,8 @@ impl<D: Devices, N: Namings<Opened>> Desk<D, N> {
     fn put<W: Wait>(
         &self,
         rt: &W,
-        waiting: Waiting<D, N>,
-    ) -> Result<(), (DeskFault, Pass<D, N>, ReplyMemory)>
+        waiting: Waiting<B, F, O, N>,
+    ) -> Result<(), (DeskFault, Pass<B, F, O, N>, ReplyMemory)>
         ensures { IfErr result (λ e. e.1 ≡ waiting.pass) }
     {
         let mut queue = self.queue.lock(rt);
@@ -142,10 +142,10 @@ impl<D: Devices, N: Namings<Opened>> Desk<D, N> {
         &self,
         rt: &W,
         room: ReplyMemory,
-        pass: Pass<D, N>,
+        pass: Pass<B, F, O, N>,
         asked: &Asked,
         bytes: &'a [u8],
-    ) -> Result<Ticket<'a, D, N>, (DeskFault, Pass<D, N>, ReplyMemory)>
+    ) -> Result<Ticket<'a, B, F, O, N>, (DeskFault, Pass<B, F, O, N>, ReplyMemory)>
         ensures ticket { IfOk result (λ t. t ≡ handed_of pass asked.now bytes.now self.now) }
         ensures back { IfErr result (λ e. e.1 ≡ pass) }
     {
@@ -160,7 +160,7 @@ impl<D: Devices, N: Namings<Opened>> Desk<D, N> {
     }
 
     /// The first job, once there is one. None: the desk is closed, and no job is left.
-    pub fn take<W: Wait>(&self, rt: &W) -> Option<Job<D, N>>
+    pub fn take<W: Wait>(&self, rt: &W) -> Option<Job<B, F, O, N>>
         ensures { IfSome result (λ job. job.names.by_group ≡ self.now) }
     {
         let mut queue = self.filled.wait_while(rt, self.queue.lock(rt), |queue| {
@@ -171,12 +171,12 @@ impl<D: Devices, N: Namings<Opened>> Desk<D, N> {
     }
 
     /// Gives an answer to the ticket that waits for it. It takes no memory.
-    pub fn post<W: Wait>(&self, rt: &W, answer: Answer<D, N>) {
+    pub fn post<W: Wait>(&self, rt: &W, answer: Answer<B, F, O, N>) {
         answer.post(rt);
     }
 
     /// Serves the first job, once there is one, and posts its answer. False: the desk is closed, and no job is left.
-    pub fn serve_next<W: Wait>(&self, rt: &W, units: &Units<D, N>) -> bool {
+    pub fn serve_next<W: Wait>(&self, rt: &W, units: &Units<B, F, O, N>) -> bool {
         let Some(job) = self.take(rt) else {
             return false;
         };
@@ -198,11 +198,11 @@ impl<D: Devices, N: Namings<Opened>> Desk<D, N> {
     pub fn collect<W: Wait>(
         &self,
         rt: &W,
-        ticket: Ticket<'_, D, N>,
-    ) -> (Pass<D, N>, Result<Reply, Refused<Group>>)
+        ticket: Ticket<'_, B, F, O, N>,
+    ) -> (Pass<B, F, O, N>, Result<Reply, Refused<Group>>)
         ensures place { result.0.place ≡ ticket.entry.names.place }
-        ensures end { HasAnsweredJob (devices D.Disk.Blocks D.File.Blocks D.Reopener.Opener)
-            (N.opening ticket.entry.names.place) ticket.entry result.0.pass result.1 }
+        ensures end { HasAnsweredJob (devices B.Blocks F.Blocks O.Opener) (N.opening ticket.entry.names.place) ticket.entry
+            result.0.pass result.1 }
     {
         self.filled.notify_one();
         ticket.collect(rt)
@@ -212,8 +212,8 @@ impl<D: Devices, N: Namings<Opened>> Desk<D, N> {
     fn take_back<W: Wait>(
         &self,
         rt: &W,
-        ticket: &Ticket<'_, D, N>,
-    ) -> Option<(Pass<D, N>, ReplyMemory)>
+        ticket: &Ticket<'_, B, F, O, N>,
+    ) -> Option<(Pass<B, F, O, N>, ReplyMemory)>
         ensures { IfSome result (λ back.
             handed_of back.0 ticket.now.names.asked ticket.now.data_in ticket.now.names.by_group ≡ ticket.now) }
     {
@@ -227,13 +227,13 @@ impl<D: Devices, N: Namings<Opened>> Desk<D, N> {
     pub fn serve_own<W: Wait>(
         &self,
         rt: &W,
-        units: &Units<D, N>,
-        ticket: Ticket<'_, D, N>,
-    ) -> (Pass<D, N>, Result<Reply, Refused<Group>>)
+        units: &Units<B, F, O, N>,
+        ticket: Ticket<'_, B, F, O, N>,
+    ) -> (Pass<B, F, O, N>, Result<Reply, Refused<Group>>)
         requires { ticket.names.place < units.now }
         ensures place { result.0.place ≡ ticket.entry.names.place }
-        ensures end { HasAnsweredJob (devices D.Disk.Blocks D.File.Blocks D.Reopener.Opener)
-            (N.opening ticket.entry.names.place) ticket.entry result.0.pass result.1 }
+        ensures end { HasAnsweredJob (devices B.Blocks F.Blocks O.Opener) (N.opening ticket.entry.names.place) ticket.entry
+            result.0.pass result.1 }
     {
         match self.take_back(rt, &ticket) {
             Some((pass, room)) => ticket.serve(rt, room, units, pass),
@@ -247,13 +247,16 @@ impl<D: Devices, N: Namings<Opened>> Desk<D, N> {
         &self,
         rt: &W,
         room: ReplyMemory,
-        units: &Units<D, N>,
-        pass: Pass<D, N>,
+        units: &Units<B, F, O, N>,
+        pass: Pass<B, F, O, N>,
         asked: &Asked,
         bytes: &[u8],
-    ) -> (Pass<D, N>, Result<Result<Reply, Refused<Group>>, DeskFault>)
+    ) -> (
+        Pass<B, F, O, N>,
+        Result<Result<Reply, Refused<Group>>, DeskFault>,
+    )
         requires { pass.place < units.now }
-        ensures { IsSettled (devices D.Disk.Blocks D.File.Blocks D.Reopener.Opener) (N.opening pass.place) pass
+        ensures { IsSettled (devices B.Blocks F.Blocks O.Opener) (N.opening pass.place) pass
             (handed_of pass asked.now bytes.now self.now) result.0 result.1 }
     {
         if self.is_closed.load(Ordering::SeqCst) {
@@ -269,13 +272,16 @@ impl<D: Devices, N: Namings<Opened>> Desk<D, N> {
         &self,
         rt: &W,
         room: ReplyMemory,
-        units: &Units<D, N>,
-        pass: Pass<D, N>,
+        units: &Units<B, F, O, N>,
+        pass: Pass<B, F, O, N>,
         asked: &Asked,
         bytes: &[u8],
-    ) -> (Pass<D, N>, Result<Result<Reply, Refused<Group>>, DeskFault>)
+    ) -> (
+        Pass<B, F, O, N>,
+        Result<Result<Reply, Refused<Group>>, DeskFault>,
+    )
         requires { pass.place < units.now }
-        ensures { IsSettled (devices D.Disk.Blocks D.File.Blocks D.Reopener.Opener) (N.opening pass.place) pass
+        ensures { IsSettled (devices B.Blocks F.Blocks O.Opener) (N.opening pass.place) pass
             (handed_of pass asked.now bytes.now self.now) result.0 result.1 }
     {
         match self.submit(rt, room, pass, asked, bytes) {
@@ -298,13 +304,16 @@ impl<D: Devices, N: Namings<Opened>> Desk<D, N> {
         &self,
         rt: &W,
         room: ReplyMemory,
-        units: &Units<D, N>,
-        pass: Pass<D, N>,
+        units: &Units<B, F, O, N>,
+        pass: Pass<B, F, O, N>,
         asked: &Asked,
         bytes: &[u8],
-    ) -> (Pass<D, N>, Result<Result<Reply, Refused<Group>>, DeskFault>)
+    ) -> (
+        Pass<B, F, O, N>,
+        Result<Result<Reply, Refused<Group>>, DeskFault>,
+    )
         requires { pass.place < units.now }
-        ensures { IsSettled (devices D.Disk.Blocks D.File.Blocks D.Reopener.Opener) (N.opening pass.place) pass
+        ensures { IsSettled (devices B.Blocks F.Blocks O.Opener) (N.opening pass.place) pass
             (handed_of pass asked.now bytes.now self.now) result.0 result.1 }
     {
         if bytes.len() > LONGEST_COPY {

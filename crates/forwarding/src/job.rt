@@ -6,27 +6,27 @@ ghost use Rattle.unit_entries.specs.Devices.{devices};
 
 use crate::names::{are_of, named, serve_named};
 use array_units::Units;
-use block_file::ReplyMemory;
+use block_file::{Blocks, Opener, ReplyMemory};
 use desk_jobs::Names;
 use scsi_types::{Asked, Group, NoMemory, Reply};
 use std::alloc::Global;
 use std::marker::Model;
 use std::sync::{Arc, Condvar, Mutex, Wait};
-use unit_history::{Devices, LegalHistory, Opened, Pass, Refused};
+use unit_history::{LegalHistory, Opened, Pass, Refused};
 use unit_sequence::Namings;
 
 // What a command came to. It keeps what the job's pass had seen, and that the pass has since seen what the reply or the refusal
 // says.
 #[derive(Drop)]
-struct Ended<D: Devices, N: Namings<Opened>> {
+struct Ended<B: Blocks, F: Blocks, O: Opener<B>, N: Namings<Opened>> {
     names: Names,
     bytes: Vec<u8>,
-    before: LegalHistory<D, N>,
-    pass: Pass<D, N>,
+    before: LegalHistory<B, F, O, N>,
+    pass: Pass<B, F, O, N>,
     end: Result<Reply, Refused<Group>>,
 }
 
-impl<D: Devices, N: Namings<Opened>> Model for Ended<D, N> {
+impl<B: Blocks, F: Blocks, O: Opener<B>, N: Namings<Opened>> Model for Ended<B, F, O, N> {
     ghost use Rattle.std.specs.Prelude.{◌≡◌};
     ghost use Rattle.unit_entries.specs.Devices.{devices};
     ghost use Rattle.forwarding.specs.Served.{HasAnsweredJob, handed};
@@ -37,35 +37,34 @@ impl<D: Devices, N: Namings<Opened>> Model for Ended<D, N> {
     ghost view = { λ e. record { job = handed e.names e.bytes.items e.before.1; after = e.pass.pass; end = e.end } };
 
     ghost invariant = { λ e. (e.before.0 ≡ e.names.place) × (e.pass.place ≡ e.names.place)
-        × HasAnsweredJob (devices D.Disk.Blocks D.File.Blocks D.Reopener.Opener) (N.opening e.names.place)
-        (handed e.names e.bytes.items e.before.1) e.pass.pass e.end };
+        × HasAnsweredJob (devices B.Blocks F.Blocks O.Opener) (N.opening e.names.place) (handed e.names e.bytes.items e.before.1)
+        e.pass.pass e.end };
 }
 
-impl<D: Devices, N: Namings<Opened>> Ended<D, N> {
+impl<B: Blocks, F: Blocks, O: Opener<B>, N: Namings<Opened>> Ended<B, F, O, N> {
     // Whether the ticket with these names, whose pass had seen this, waits for it.
-    fn is_for(&self, names: &Names, bytes: &[u8], seen: &LegalHistory<D, N>) -> bool
+    fn is_for(&self, names: &Names, bytes: &[u8], seen: &LegalHistory<B, F, O, N>) -> bool
         ensures { MatchBool result (self.now.job ≡ handed names.now bytes.now seen.now.1) (Unit {0}) }
     {
         self.names.is_same(names) && self.bytes.as_slice() == bytes && self.before.is_same(seen)
     }
 
     // The pass and the end.
-    fn open(self) -> (Pass<D, N>, Result<Reply, Refused<Group>>)
+    fn open(self) -> (Pass<B, F, O, N>, Result<Reply, Refused<Group>>)
         ensures place { result.0.place ≡ self.job.names.place }
-        ensures end { HasAnsweredJob (devices D.Disk.Blocks D.File.Blocks D.Reopener.Opener)
-            (N.opening self.job.names.place) self.job result.0.pass result.1 }
+        ensures end { HasAnsweredJob (devices B.Blocks F.Blocks O.Opener) (N.opening self.job.names.place) self.job result.0.pass result.1 }
     {
         (self.pass, self.end)
     }
 }
 
 // Where an answer comes. It is made when its job is handed in.
-struct Slot<D: Devices, N: Namings<Opened>> {
-    answer: Mutex<Option<Ended<D, N>>>,
+struct Slot<B: Blocks, F: Blocks, O: Opener<B>, N: Namings<Opened>> {
+    answer: Mutex<Option<Ended<B, F, O, N>>>,
     filled: Condvar,
 }
 
-impl<D: Devices, N: Namings<Opened>> Drop for Slot<D, N> {
+impl<B: Blocks, F: Blocks, O: Opener<B>, N: Namings<Opened>> Drop for Slot<B, F, O, N> {
     fn drop(self) {
         let Self {
             answer: _,
@@ -74,11 +73,11 @@ impl<D: Devices, N: Namings<Opened>> Drop for Slot<D, N> {
     }
 }
 
-impl<D: Devices, N: Namings<Opened>> Slot<D, N> {
+impl<B: Blocks, F: Blocks, O: Opener<B>, N: Namings<Opened>> Slot<B, F, O, N> {
     // A slot without an answer, shared by two.
     fn shared(
         alloc: Global,
-    ) -> Result<(Arc<Slot<D, N>, Global>, Arc<Slot<D, N>, Global>), NoMemory> {
+    ) -> Result<(Arc<Slot<B, F, O, N>, Global>, Arc<Slot<B, F, O, N>, Global>), NoMemory> {
         let slot = Slot {
             answer: Mutex::new(None),
             filled: Condvar::new(),
@@ -96,21 +95,21 @@ impl<D: Devices, N: Namings<Opened>> Slot<D, N> {
 // A command of a session in a desk's queue: the session's pass and the memory for its reply, which go with it, a copy of the data that
 // came, and the slot of its answer.
 #[derive(Drop)]
-pub(crate) struct Waiting<D: Devices, N: Namings<Opened>> {
-    pub(crate) pass: Pass<D, N>,
+pub(crate) struct Waiting<B: Blocks, F: Blocks, O: Opener<B>, N: Namings<Opened>> {
+    pub(crate) pass: Pass<B, F, O, N>,
     pub(crate) room: ReplyMemory,
     asked: Asked,
     bytes: Vec<u8>,
-    slot: Arc<Slot<D, N>, Global>,
+    slot: Arc<Slot<B, F, O, N>, Global>,
 }
 
 /// A job that was taken from the desk of a group. Contracts see what it is known by, its data, and what its pass has seen.
-pub struct Job<D: Devices, N: Namings<Opened>> {
-    waiting: Waiting<D, N>,
+pub struct Job<B: Blocks, F: Blocks, O: Opener<B>, N: Namings<Opened>> {
+    waiting: Waiting<B, F, O, N>,
     by_group: Group,
 }
 
-impl<D: Devices, N: Namings<Opened>> Drop for Job<D, N> {
+impl<B: Blocks, F: Blocks, O: Opener<B>, N: Namings<Opened>> Drop for Job<B, F, O, N> {
     fn drop(self) {
         let Self {
             waiting: _,
@@ -119,7 +118,7 @@ impl<D: Devices, N: Namings<Opened>> Drop for Job<D, N> {
     }
 }
 
-impl<D: Devices, N: Namings<Opened>> Model for Job<D, N> {
+impl<B: Blocks, F: Blocks, O: Opener<B>, N: Namings<Opened>> Model for Job<B, F, O, N> {
     ghost use Rattle.forwarding.specs.Served.{Handed, handed_of};
 
     ghost Value = { Handed };
@@ -127,9 +126,9 @@ impl<D: Devices, N: Namings<Opened>> Model for Job<D, N> {
     ghost view = { λ j. handed_of j.waiting.pass j.waiting.asked j.waiting.bytes.items j.by_group };
 }
 
-impl<D: Devices, N: Namings<Opened>> Job<D, N> {
+impl<B: Blocks, F: Blocks, O: Opener<B>, N: Namings<Opened>> Job<B, F, O, N> {
     // What waited at the desk of this group.
-    pub(crate) fn from_desk(waiting: Waiting<D, N>, by_group: Group) -> Job<D, N>
+    pub(crate) fn from_desk(waiting: Waiting<B, F, O, N>, by_group: Group) -> Job<B, F, O, N>
         ensures { result ≡ handed_of waiting.pass waiting.asked waiting.bytes.items by_group }
     {
         Job { waiting, by_group }
@@ -143,7 +142,7 @@ impl<D: Devices, N: Namings<Opened>> Job<D, N> {
     }
 
     /// Serves the job, as [`Units::serve`].
-    pub fn serve<W: Wait>(self, rt: &W, units: &Units<D, N>) -> Answer<D, N>
+    pub fn serve<W: Wait>(self, rt: &W, units: &Units<B, F, O, N>) -> Answer<B, F, O, N>
         requires { self.names.place < units.now }
         ensures { result.job ≡ self }
     {
@@ -155,7 +154,7 @@ impl<D: Devices, N: Namings<Opened>> Job<D, N> {
             bytes,
             slot,
         } = waiting;
-        let names = named::<D, N>(&pass, &asked, by_group);
+        let names = named(&pass, &asked, by_group);
         let before = pass.history();
         let (pass, end) = serve_named(&names, rt, room, units, pass, bytes.as_slice());
         Answer {
@@ -172,18 +171,18 @@ impl<D: Devices, N: Namings<Opened>> Job<D, N> {
 }
 
 /// What a job came to, with the slot that it goes to. Contracts see the job, what its pass has seen since, and the end.
-pub struct Answer<D: Devices, N: Namings<Opened>> {
-    ended: Ended<D, N>,
-    slot: Arc<Slot<D, N>, Global>,
+pub struct Answer<B: Blocks, F: Blocks, O: Opener<B>, N: Namings<Opened>> {
+    ended: Ended<B, F, O, N>,
+    slot: Arc<Slot<B, F, O, N>, Global>,
 }
 
-impl<D: Devices, N: Namings<Opened>> Drop for Answer<D, N> {
+impl<B: Blocks, F: Blocks, O: Opener<B>, N: Namings<Opened>> Drop for Answer<B, F, O, N> {
     fn drop(self) {
         let Self { ended: _, slot: _ } = self;
     }
 }
 
-impl<D: Devices, N: Namings<Opened>> Model for Answer<D, N> {
+impl<B: Blocks, F: Blocks, O: Opener<B>, N: Namings<Opened>> Model for Answer<B, F, O, N> {
     ghost use Rattle.forwarding.specs.Jobs.{Done};
 
     ghost Value = { Done };
@@ -191,7 +190,7 @@ impl<D: Devices, N: Namings<Opened>> Model for Answer<D, N> {
     ghost view = { λ a. a.ended };
 }
 
-impl<D: Devices, N: Namings<Opened>> Answer<D, N> {
+impl<B: Blocks, F: Blocks, O: Opener<B>, N: Namings<Opened>> Answer<B, F, O, N> {
     // Puts it where its ticket waits. It takes no memory.
     pub(crate) fn post<W: Wait>(self, rt: &W) {
         let Answer { ended, slot } = self;
@@ -202,14 +201,14 @@ impl<D: Devices, N: Namings<Opened>> Answer<D, N> {
 
 /// What is left to the worker that handed a job in, with the data that it came with. Contracts see what the job is known by, its
 /// data, and what its pass had seen.
-pub struct Ticket<'a, D: Devices, N: Namings<Opened>> {
+pub struct Ticket<'a, B: Blocks, F: Blocks, O: Opener<B>, N: Namings<Opened>> {
     names: Names,
     bytes: &'a [u8],
-    seen: LegalHistory<D, N>,
-    slot: Arc<Slot<D, N>, Global>,
+    seen: LegalHistory<B, F, O, N>,
+    slot: Arc<Slot<B, F, O, N>, Global>,
 }
 
-impl<D: Devices, N: Namings<Opened>> Drop for Ticket<'_, D, N> {
+impl<B: Blocks, F: Blocks, O: Opener<B>, N: Namings<Opened>> Drop for Ticket<'_, B, F, O, N> {
     fn drop(self) {
         let Self {
             names: _,
@@ -220,7 +219,7 @@ impl<D: Devices, N: Namings<Opened>> Drop for Ticket<'_, D, N> {
     }
 }
 
-impl<'a, D: Devices, N: Namings<Opened>> Model for Ticket<'a, D, N> {
+impl<'a, B: Blocks, F: Blocks, O: Opener<B>, N: Namings<Opened>> Model for Ticket<'a, B, F, O, N> {
     ghost use Rattle.std.specs.Prelude.{◌≡◌};
     ghost use Rattle.forwarding.specs.Served.{Handed, handed};
 
@@ -232,11 +231,11 @@ impl<'a, D: Devices, N: Namings<Opened>> Model for Ticket<'a, D, N> {
 }
 
 // Whether the answer that a ticket waits for is there.
-fn is_for<D: Devices, N: Namings<Opened>>(
-    held: &Option<Ended<D, N>>,
+fn is_for<B: Blocks, F: Blocks, O: Opener<B>, N: Namings<Opened>>(
+    held: &Option<Ended<B, F, O, N>>,
     names: &Names,
     bytes: &[u8],
-    seen: &LegalHistory<D, N>,
+    seen: &LegalHistory<B, F, O, N>,
 ) -> bool
     ensures { MatchBool result (IsFor held.now (handed names.now bytes.now seen.now.1)) (Unit {0}) }
 {
@@ -246,7 +245,7 @@ fn is_for<D: Devices, N: Namings<Opened>>(
     }
 }
 
-impl<'a, D: Devices, N: Namings<Opened>> Ticket<'a, D, N> {
+impl<'a, B: Blocks, F: Blocks, O: Opener<B>, N: Namings<Opened>> Ticket<'a, B, F, O, N> {
     /// The place of its job's unit.
     pub fn place(&self) -> usize
         ensures { result ≡ self.now.names.place }
@@ -255,11 +254,11 @@ impl<'a, D: Devices, N: Namings<Opened>> Ticket<'a, D, N> {
     }
 
     // Whether this pass is that of its job.
-    pub(crate) fn is_of(&self, pass: &Pass<D, N>) -> bool
+    pub(crate) fn is_of(&self, pass: &Pass<B, F, O, N>) -> bool
         ensures { MatchBool result
             (handed_of pass.now self.now.names.asked self.now.data_in self.now.names.by_group ≡ self.now) (Unit {0}) }
     {
-        are_of::<D, N>(&self.names, pass) && pass.history().is_same(&self.seen)
+        are_of(&self.names, pass) && pass.history().is_same(&self.seen)
     }
 
     // Serves its job, whose pass was taken back, with the data that it came with.
@@ -267,20 +266,20 @@ impl<'a, D: Devices, N: Namings<Opened>> Ticket<'a, D, N> {
         self,
         rt: &W,
         room: ReplyMemory,
-        units: &Units<D, N>,
-        pass: Pass<D, N>,
-    ) -> (Pass<D, N>, Result<Reply, Refused<Group>>)
+        units: &Units<B, F, O, N>,
+        pass: Pass<B, F, O, N>,
+    ) -> (Pass<B, F, O, N>, Result<Reply, Refused<Group>>)
         requires own { handed_of pass self.names.asked self.data_in self.names.by_group ≡ self }
         requires place { self.names.place < units.now }
         ensures place { result.0.place ≡ self.entry.names.place }
-        ensures end { HasAnsweredJob (devices D.Disk.Blocks D.File.Blocks D.Reopener.Opener)
-            (N.opening self.entry.names.place) self.entry result.0.pass result.1 }
+        ensures end { HasAnsweredJob (devices B.Blocks F.Blocks O.Opener) (N.opening self.entry.names.place) self.entry
+            result.0.pass result.1 }
     {
         serve_named(&self.names, rt, room, units, pass, self.bytes)
     }
 
     // Its answer, once it is there. Another's is left where it is.
-    fn ended<W: Wait>(&self, rt: &W) -> Ended<D, N>
+    fn ended<W: Wait>(&self, rt: &W) -> Ended<B, F, O, N>
         ensures { result.job ≡ self.now }
     {
         let held = self.slot.answer.lock(rt);
@@ -294,10 +293,13 @@ impl<'a, D: Devices, N: Namings<Opened>> Ticket<'a, D, N> {
     }
 
     // Its answer, once it is there. Another's is left where it is.
-    pub(crate) fn collect<W: Wait>(self, rt: &W) -> (Pass<D, N>, Result<Reply, Refused<Group>>)
+    pub(crate) fn collect<W: Wait>(
+        self,
+        rt: &W,
+    ) -> (Pass<B, F, O, N>, Result<Reply, Refused<Group>>)
         ensures place { result.0.place ≡ self.entry.names.place }
-        ensures end { HasAnsweredJob (devices D.Disk.Blocks D.File.Blocks D.Reopener.Opener)
-            (N.opening self.entry.names.place) self.entry result.0.pass result.1 }
+        ensures end { HasAnsweredJob (devices B.Blocks F.Blocks O.Opener) (N.opening self.entry.names.place) self.entry
+            result.0.pass result.1 }
     {
         self.ended(rt).open()
     }
@@ -305,13 +307,13 @@ impl<'a, D: Devices, N: Namings<Opened>> Ticket<'a, D, N> {
 
 // A command of a session that is to wait at the desk of a group, and its ticket: the job that waits is the ticket's. Refused, there
 // was no memory, and the pass is handed back, with the memory for the reply.
-pub(crate) fn prepare<'a, D: Devices, N: Namings<Opened>>(
+pub(crate) fn prepare<'a, B: Blocks, F: Blocks, O: Opener<B>, N: Namings<Opened>>(
     room: ReplyMemory,
-    pass: Pass<D, N>,
+    pass: Pass<B, F, O, N>,
     asked: &Asked,
     bytes: &'a [u8],
     by_group: Group,
-) -> Result<(Ticket<'a, D, N>, Waiting<D, N>), (Pass<D, N>, ReplyMemory)>
+) -> Result<(Ticket<'a, B, F, O, N>, Waiting<B, F, O, N>), (Pass<B, F, O, N>, ReplyMemory)>
     ensures ticket { IfOk result (λ r. r.0 ≡ handed_of pass asked.now bytes.now by_group) }
     ensures pass { IfOk result (λ r. r.1.pass ≡ pass) }
     ensures waits { IfOk result (λ r. handed_of r.1.pass r.1.asked r.1.bytes.items by_group ≡ r.0) }
@@ -324,7 +326,7 @@ pub(crate) fn prepare<'a, D: Devices, N: Namings<Opened>>(
         return Err((pass, room));
     };
     let ticket = Ticket {
-        names: named::<D, N>(&pass, asked, by_group),
+        names: named(&pass, asked, by_group),
         bytes,
         seen: pass.history(),
         slot: mine,

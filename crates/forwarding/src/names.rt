@@ -5,16 +5,16 @@ ghost use Rattle.forwarding.specs.Served.{HasAnsweredJob, handed};
 ghost use Rattle.unit_entries.specs.Devices.{devices};
 
 use array_units::Units;
-use block_file::ReplyMemory;
+use block_file::{Blocks, Opener, ReplyMemory};
 use desk_jobs::Names;
 use scsi_types::{Asked, Group, Reply};
 use std::sync::Wait;
-use unit_history::{Devices, Opened, Pass, Refused};
+use unit_history::{Opened, Pass, Refused};
 use unit_sequence::Namings;
 
 /// What a command of the session with this pass is known by at the desk of a group.
-pub(crate) fn named<D: Devices, N: Namings<Opened>>(
-    pass: &Pass<D, N>,
+pub(crate) fn named<B: Blocks, F: Blocks, O: Opener<B>, N: Namings<Opened>>(
+    pass: &Pass<B, F, O, N>,
     asked: &Asked,
     by_group: Group,
 ) -> Names
@@ -30,25 +30,28 @@ pub(crate) fn named<D: Devices, N: Namings<Opened>>(
 }
 
 /// Whether they are of the next command of the session with this pass.
-pub(crate) fn are_of<D: Devices, N: Namings<Opened>>(names: &Names, pass: &Pass<D, N>) -> bool
+pub(crate) fn are_of<B: Blocks, F: Blocks, O: Opener<B>, N: Namings<Opened>>(
+    names: &Names,
+    pass: &Pass<B, F, O, N>,
+) -> bool
     ensures { MatchBool result (names_of pass.now names.now.asked names.now.by_group ≡ names.now) (Unit {0}) }
 {
     names.place == pass.place() && names.session == pass.session() && names.serial == pass.serial()
 }
 
 /// Serves the command, with its session's pass and the data that came for it, as [`Units::serve`].
-pub(crate) fn serve_named<D: Devices, N: Namings<Opened>, W: Wait>(
+pub(crate) fn serve_named<B: Blocks, F: Blocks, O: Opener<B>, N: Namings<Opened>, W: Wait>(
     names: &Names,
     rt: &W,
     room: ReplyMemory,
-    units: &Units<D, N>,
-    pass: Pass<D, N>,
+    units: &Units<B, F, O, N>,
+    pass: Pass<B, F, O, N>,
     bytes: &[u8],
-) -> (Pass<D, N>, Result<Reply, Refused<Group>>)
+) -> (Pass<B, F, O, N>, Result<Reply, Refused<Group>>)
     requires own { names_of pass names.now.asked names.now.by_group ≡ names.now }
     requires place { names.now.place < units.now }
     ensures place { result.0.place ≡ names.now.place }
-    ensures end { HasAnsweredJob (devices D.Disk.Blocks D.File.Blocks D.Reopener.Opener) (N.opening names.now.place)
+    ensures end { HasAnsweredJob (devices B.Blocks F.Blocks O.Opener) (N.opening names.now.place)
         (handed names.now bytes.now pass.pass.seen) result.0.pass result.1 }
 {
     units.serve(rt, pass, room, &names.by_group, &names.asked, bytes)

@@ -3,18 +3,16 @@ ghost use Rattle.std.specs.Prelude.{◌≡◌, IfOk};
 
 use crate::units::{LogicalUnits, Pass, Unserved};
 use array_units::Units;
-use block_file::ReplyMemory;
+use block_file::{Blocks, Opener, ReplyMemory};
 use forwarding::Desk;
 use scsi_types::{Asked, Group, NoMemory, PortName, Reply};
-use status::Published;
 use std::alloc::Global;
 use std::marker::Model;
 use std::sync::Wait;
-use unit_history::{Devices, LegalHistory, Noted, Opened, Pass as UnitPass};
-use unit_lock::Pass as SessionPass;
+use unit_history::{LegalHistory, Opened, Pass as UnitPass};
 use unit_sequence::Namings;
 
-impl<X: Published<Noted, Opened>, N: Namings<Opened>> Pass for SessionPass<Noted, Opened, X, N> {
+impl<B: Blocks, F: Blocks, O: Opener<B>, N: Namings<Opened>> Pass for UnitPass<B, F, O, N> {
     ghost held = { λ p. p };
 
     fn place(&self) -> usize {
@@ -28,13 +26,13 @@ impl<X: Published<Noted, Opened>, N: Namings<Opened>> Pass for SessionPass<Noted
 
 /// The units of an array, and a desk for each controller, to which sessions of both hand the commands of the units that it owns.
 /// Contracts see how many units there are.
-pub struct Controllers<D: Devices, N: Namings<Opened>> {
-    units: Units<D, N>,
-    first: Desk<D, N>,
-    second: Desk<D, N>,
+pub struct Controllers<B: Blocks, F: Blocks, O: Opener<B>, N: Namings<Opened>> {
+    units: Units<B, F, O, N>,
+    first: Desk<B, F, O, N>,
+    second: Desk<B, F, O, N>,
 }
 
-impl<D: Devices, N: Namings<Opened>> Drop for Controllers<D, N> {
+impl<B: Blocks, F: Blocks, O: Opener<B>, N: Namings<Opened>> Drop for Controllers<B, F, O, N> {
     fn drop(self) {
         let Self {
             units: _,
@@ -44,7 +42,7 @@ impl<D: Devices, N: Namings<Opened>> Drop for Controllers<D, N> {
     }
 }
 
-impl<D: Devices, N: Namings<Opened>> Model for Controllers<D, N> {
+impl<B: Blocks, F: Blocks, O: Opener<B>, N: Namings<Opened>> Model for Controllers<B, F, O, N> {
     ghost use Rattle.std.specs.Prelude.{◌≡◌, ℕ};
     ghost use Rattle.scsi_types.specs.declared.names.Group.TheVariants.{One, Two};
 
@@ -55,9 +53,9 @@ impl<D: Devices, N: Namings<Opened>> Model for Controllers<D, N> {
     ghost invariant = { λ c. (c.first ≡ One) × (c.second ≡ Two) };
 }
 
-impl<D: Devices, N: Namings<Opened>> Controllers<D, N> {
+impl<B: Blocks, F: Blocks, O: Opener<B>, N: Namings<Opened>> Controllers<B, F, O, N> {
     /// Two controllers with these units. No lane is at their desks yet.
-    pub fn new(alloc: Global, units: Units<D, N>) -> Result<Controllers<D, N>, NoMemory>
+    pub fn new(alloc: Global, units: Units<B, F, O, N>) -> Result<Controllers<B, F, O, N>, NoMemory>
         ensures { IfOk result (λ controllers. controllers ≡ units) }
     {
         Ok(Controllers {
@@ -68,14 +66,14 @@ impl<D: Devices, N: Namings<Opened>> Controllers<D, N> {
     }
 
     /// The units.
-    pub fn units(&self) -> &Units<D, N>
+    pub fn units(&self) -> &Units<B, F, O, N>
         ensures { result.now ≡ self.now }
     {
         &self.units
     }
 
     /// The desk of a group's controller.
-    pub fn desk(&self, group: Group) -> &Desk<D, N>
+    pub fn desk(&self, group: Group) -> &Desk<B, F, O, N>
         ensures { result.now ≡ group }
     {
         match group {
@@ -91,20 +89,21 @@ impl<D: Devices, N: Namings<Opened>> Controllers<D, N> {
     }
 }
 
-impl<D: Devices, N: Namings<Opened>> LogicalUnits for Controllers<D, N> {
+impl<B: Blocks, F: Blocks, O: Opener<B>, N: Namings<Opened>> LogicalUnits
+    for Controllers<B, F, O, N> {
     ghost use Rattle.unit_history.specs.Calls.{HasWorked};
     ghost use Rattle.unit_entries.specs.Devices.{claims_of, devices};
     ghost use Rattle.portal.specs.Leaving.{has_left};
 
-    type Right = UnitPass<D, N>;
+    type Right = UnitPass<B, F, O, N>;
 
-    type History = LegalHistory<D, N>;
+    type History = LegalHistory<B, F, O, N>;
 
     ghost unit_count = { λ c. c };
 
     ghost claims = { record {
-      contents = claims_of (devices D.Disk.Blocks D.File.Blocks D.Reopener.Opener);
-      worked = HasWorked (devices D.Disk.Blocks D.File.Blocks D.Reopener.Opener);
+      contents = claims_of (devices B.Blocks F.Blocks O.Opener);
+      worked = HasWorked (devices B.Blocks F.Blocks O.Opener);
       left = has_left;
     } };
 
@@ -116,7 +115,7 @@ impl<D: Devices, N: Namings<Opened>> LogicalUnits for Controllers<D, N> {
         self.units.count() as u8
     }
 
-    fn in_one_history(one: &LegalHistory<D, N>, other: &LegalHistory<D, N>) {
+    fn in_one_history(one: &LegalHistory<B, F, O, N>, other: &LegalHistory<B, F, O, N>) {
         one.in_one_history(other);
     }
 
@@ -126,7 +125,7 @@ impl<D: Devices, N: Namings<Opened>> LogicalUnits for Controllers<D, N> {
         unit: u8,
         port: PortName,
         group: Group,
-    ) -> Result<UnitPass<D, N>, LegalHistory<D, N>> {
+    ) -> Result<UnitPass<B, F, O, N>, LegalHistory<B, F, O, N>> {
         self.units.attach(rt, usize::from(unit), port, group)
     }
 
@@ -135,11 +134,11 @@ impl<D: Devices, N: Namings<Opened>> LogicalUnits for Controllers<D, N> {
         &self,
         rt: &W,
         room: ReplyMemory,
-        pass: UnitPass<D, N>,
+        pass: UnitPass<B, F, O, N>,
         by_group: Group,
         asked: &Asked,
         bytes: &[u8],
-    ) -> (UnitPass<D, N>, Result<Reply, Unserved>) {
+    ) -> (UnitPass<B, F, O, N>, Result<Reply, Unserved>) {
         let desk = self.desk(by_group);
         match desk.serve(rt, room, &self.units, pass, asked, bytes) {
             (pass, Ok(Ok(reply))) => (pass, Ok(reply)),
@@ -152,12 +151,12 @@ impl<D: Devices, N: Namings<Opened>> LogicalUnits for Controllers<D, N> {
         }
     }
 
-    fn reset<W: Wait>(&self, rt: &W, pass: UnitPass<D, N>) -> (UnitPass<D, N>, bool) {
+    fn reset<W: Wait>(&self, rt: &W, pass: UnitPass<B, F, O, N>) -> (UnitPass<B, F, O, N>, bool) {
         self.units.reset(rt, pass)
     }
 
     #[tactic(auto, using(crate::specs::Leaving::an_end_says))]
-    fn retire<W: Wait>(&self, rt: &W, pass: UnitPass<D, N>) -> LegalHistory<D, N> {
+    fn retire<W: Wait>(&self, rt: &W, pass: UnitPass<B, F, O, N>) -> LegalHistory<B, F, O, N> {
         match self.units.retire(rt, pass) {
             Ok(seen) => seen,
             Err(gone) => gone.history(),

@@ -6,12 +6,13 @@ use crate::controllers::Controllers;
 use crate::gate::Gate;
 use crate::server::Server;
 use crate::stacks::Stacks;
+use block_file::{Blocks, Opener};
 use scsi_types::{Group, NoMemory};
 use std::alloc::Global;
 use std::marker::Model;
 use std::sync::{Arc, Wait};
 use std::thread::{Builder, Promise, PromisedHandle, Threads};
-use unit_history::{Devices, Opened};
+use unit_history::Opened;
 use unit_sequence::Namings;
 
 /// What a lane's thread comes to: it has served at the desk of this group.
@@ -30,9 +31,9 @@ impl Promise<Group> for AtDesk {
 pub type Lane = PromisedHandle<Group, AtDesk>;
 
 // Serves what comes to the desk of a group, until it is closed and nothing waits there any more: the group of that desk.
-fn lane<D: Devices, N: Namings<Opened>, R: Wait>(
+fn lane<B: Blocks, F: Blocks, O: Opener<B>, N: Namings<Opened>, R: Wait>(
     rt: &R,
-    controllers: &Controllers<D, N>,
+    controllers: &Controllers<B, F, O, N>,
     group: Group,
 ) -> Group
     ensures { result ≡ group }
@@ -49,20 +50,18 @@ fn lane<D: Devices, N: Namings<Opened>, R: Wait>(
 /// Starts the lanes of a group's controller, as many as serve a desk. They end behind its close.
 pub fn start_lanes<
     N: Namings<Opened> + Send + Sync + 'static,
-    D: Devices + Send + Sync + 'static,
+    B: Blocks + Send + Sync + 'static,
+    F: Blocks + Send + Sync + 'static,
+    O: Opener<B> + Send + Sync + 'static,
     G: Gate + Drop + Send + Sync + 'static,
     R: Threads + Wait + Clone + Drop + Send + 'static,
     S: Stacks,
 >(
     rt: &R,
-    server: &Arc<Server<Controllers<D, N>, G>, Global>,
+    server: &Arc<Server<Controllers<B, F, O, N>, G>, Global>,
     group: Group,
     stacks: &mut S,
 ) -> Result<[Lane; 4], NoMemory>
-where
-    D::Disk: Send + Sync + 'static,
-    D::File: Send + Sync + 'static,
-    D::Reopener: Send + Sync + 'static,
     ensures { IfOk result (AreLanesOf group) }
 {
     let mut start = || -> Result<Lane, NoMemory>

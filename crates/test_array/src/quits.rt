@@ -5,7 +5,7 @@ ghost use Rattle.unit_history.specs.Naming.{IsNamed};
 use crate::ends::must;
 use array::{Operated, console};
 use array_units::Units;
-use block_file::{FusedBlocks, KeepOpener, MemBlocks};
+use block_file::{Blocks, FusedBlocks, KeepOpener, MemBlocks, Opener};
 use event_log::Log;
 use portal::Controllers;
 use scsi_types::Group;
@@ -16,11 +16,11 @@ use std::sync::Wait;
 use std::test::Fail;
 use std::time::Clock;
 use test_memory::new_unit;
-use unit_history::{Devices, NewUnit, Opened};
+use unit_history::{NewUnit, Opened};
 use unit_sequence::Namings;
 
 /// A unit whose device passes one call on, and fails each one after it.
-type Once = NewUnit<(FusedBlocks<MemBlocks>, MemBlocks, KeepOpener)>;
+type Once = NewUnit<FusedBlocks<MemBlocks>, MemBlocks, KeepOpener>;
 
 fn once(alloc: Global, unit: u8) -> Result<Once, Fail> {
     let device = FusedBlocks::new(MemBlocks::new(alloc, 8)?, 1);
@@ -34,10 +34,10 @@ fn two(alloc: Global) -> Result<Vec<Once>, Fail> {
     Ok(new)
 }
 
-fn quit<D: Devices, N: Namings<Opened>, R: Wait + Clock>(
+fn quit<B: Blocks, F: Blocks, O: Opener<B>, N: Namings<Opened>, R: Wait + Clock>(
     rt: &R,
     alloc: Global,
-    controllers: &Controllers<D, N>,
+    controllers: &Controllers<B, F, O, N>,
 ) {
     let log = Log::off();
     let mut told = Vec::new(alloc);
@@ -50,15 +50,15 @@ fn quit<D: Devices, N: Namings<Opened>, R: Wait + Clock>(
 }
 
 // Behind it no desk has a job any more, where an open one would wait for the next. Each unit was flushed: of each the next flush fails.
-fn are_left<D: Devices, N: Namings<Opened>, R: Wait + Clock + Abort>(
+fn are_left<B: Blocks, F: Blocks, O: Opener<B>, N: Namings<Opened>, R: Wait + Clock + Abort>(
     rt: &R,
     alloc: Global,
-    new: Vec<NewUnit<D>>,
+    new: Vec<NewUnit<B, F, O>>,
 )
-    requires named { IsNamed N.book N.table N.opening D.Disk.contents new.items }
+    requires named { IsNamed N.book N.table N.opening B.contents new.items }
     requires count { length new.items ≤ 8 }
 {
-    let units = Units::<D, N>::new(rt, alloc, new).expect(rt, "memory");
+    let units = Units::<B, F, O, N>::new(rt, alloc, new).expect(rt, "memory");
     let controllers = Controllers::new(alloc, units).expect(rt, "memory");
     quit(rt, alloc, &controllers);
     let units = controllers.units();
@@ -78,6 +78,6 @@ fn quit_closes_both_desks_and_flushes_each_unit(rt: HostRuntime) -> Result<(), F
     if new.len() > 8 {
         return Err("more than eight units".into());
     }
-    are_left::<_, Brand, _>(&rt, rt.alloc(), new);
+    are_left::<_, _, _, Brand, _>(&rt, rt.alloc(), new);
     Ok(())
 }

@@ -16,7 +16,7 @@ use test_memory::{Opens, new_unit};
 use unit_history::NewUnit;
 
 /// A unit over memory.
-type New = NewUnit<(MemBlocks, MemBlocks, Opens)>;
+type New = NewUnit<MemBlocks, MemBlocks, Opens>;
 
 /// So many blocks a unit has.
 const BLOCKS: u32 = 64;
@@ -52,7 +52,7 @@ pub fn run<W: Threads + Wait + Clone + Send + Sync + Drop>(
     tale: Tale<'_>,
 ) -> Result<(), Fail> {
     let new = units_of(alloc, opens)?;
-    tell::<Brand, _, W>(rt, alloc, new, tale)
+    tell::<Brand, _, _, W>(rt, alloc, new, tale)
 }
 
 // The numbers of a line.

@@ -6,7 +6,7 @@ use crate::any_array::{Array, End, ended, number_of, sense_number};
 use crate::tales::{Tale, happens};
 use access_states::AsetFault;
 use array_units::Units;
-use block_file::{BLOCK_LENGTH, MemBlocks, ReplyMemory};
+use block_file::{BLOCK_LENGTH, Blocks, MemBlocks, Opener, ReplyMemory};
 use disk_preparer::BlockMemory;
 use failover::{Mover, set_groups, take_down};
 use forwarding::{Desk, DeskFault, Ticket};
@@ -16,7 +16,7 @@ use std::alloc::Global;
 use std::sync::Wait;
 use std::test::Fail;
 use std::thread::Threads;
-use unit_history::{Devices, NewUnit, Opened, Pass, Refused};
+use unit_history::{NewUnit, Opened, Pass, Refused};
 use unit_sequence::Namings;
 use unit_state::MoveFault;
 
@@ -61,13 +61,13 @@ fn stays(why: MoveFault) -> &'static str {
     }
 }
 
-/// Units that threads share, and the desk of their first controller.
+/// Units that threads share, whose registration files lie in memory, and the desk of their first controller.
 #[derive(Drop)]
-struct Shared<W: Wait + Drop, D: Devices, N: Namings<Opened>> {
+struct Shared<W: Wait + Drop, B: Blocks, O: Opener<B>, N: Namings<Opened>> {
     rt: W,
     alloc: Global,
-    units: Units<D, N>,
-    desk: Desk<D, N>,
+    units: Units<B, MemBlocks, O, N>,
+    desk: Desk<B, MemBlocks, O, N>,
 }
 
 /// Memory that is handed in with a command has room for so many bytes.
@@ -82,15 +82,15 @@ fn room(alloc: Global) -> ReplyMemory {
 
 /// The session of a host at one of them: its pass, the ticket of its command that waits at the desk, and the data of the last reply.
 #[derive(Drop)]
-struct Host<D: Devices, N: Namings<Opened>> {
-    pass: Option<Pass<D, N>>,
-    ticket: Option<Ticket<'static, D, N>>,
+struct Host<B: Blocks, O: Opener<B>, N: Namings<Opened>> {
+    pass: Option<Pass<B, MemBlocks, O, N>>,
+    ticket: Option<Ticket<'static, B, MemBlocks, O, N>>,
     data: Vec<u8>,
 }
 
-impl<D: Devices, N: Namings<Opened>> Host<D, N> {
+impl<B: Blocks, O: Opener<B>, N: Namings<Opened>> Host<B, O, N> {
     // Keeps the pass, and the reply, which is told in short.
-    fn keep(&mut self, pass: Pass<D, N>, end: Result<Reply, Refused<Group>>) -> End {
+    fn keep(&mut self, pass: Pass<B, MemBlocks, O, N>, end: Result<Reply, Refused<Group>>) -> End {
         self.pass = Some(pass);
         match end {
             Ok(reply) => {
@@ -106,9 +106,9 @@ impl<D: Devices, N: Namings<Opened>> Host<D, N> {
     }
 }
 
-impl<W: Wait + Drop, D: Devices, N: Namings<Opened>> Shared<W, D, N> {
+impl<W: Wait + Drop, B: Blocks, O: Opener<B>, N: Namings<Opened>> Shared<W, B, O, N> {
     // Takes the pass of a host, where it has one, of a unit that there is.
-    fn pass_of(&self, host: &mut Host<D, N>) -> Option<Pass<D, N>>
+    fn pass_of(&self, host: &mut Host<B, O, N>) -> Option<Pass<B, MemBlocks, O, N>>
         ensures { IfSome result (λ pass. pass.place < self.now.units) }
     {
         let pass = host.pass.take()?;
@@ -120,8 +120,9 @@ impl<W: Wait + Drop, D: Devices, N: Namings<Opened>> Shared<W, D, N> {
     }
 }
 
-impl<W: Wait + Drop, D: Devices, N: Namings<Opened>> Array<Host<D, N>> for Shared<W, D, N> {
-    fn attach(&self, place: usize, isid: u32, group: Group) -> Option<Host<D, N>> {
+impl<W: Wait + Drop, B: Blocks, O: Opener<B>, N: Namings<Opened>> Array<Host<B, O, N>>
+    for Shared<W, B, O, N> {
+    fn attach(&self, place: usize, isid: u32, group: Group) -> Option<Host<B, O, N>> {
         if place >= self.units.count() {
             return None;
         }
@@ -135,7 +136,13 @@ impl<W: Wait + Drop, D: Devices, N: Namings<Opened>> Array<Host<D, N>> for Share
         })
     }
 
-    fn ask(&self, host: &mut Host<D, N>, by_group: Group, command: Command, bytes: &[u8]) -> End {
+    fn ask(
+        &self,
+        host: &mut Host<B, O, N>,
+        by_group: Group,
+        command: Command,
+        bytes: &[u8],
+    ) -> End {
         let Some(pass) = self.pass_of(host) else {
             return ended("nobody");
         };
@@ -144,7 +151,7 @@ impl<W: Wait + Drop, D: Devices, N: Namings<Opened>> Array<Host<D, N>> for Share
         host.keep(pass, end)
     }
 
-    fn ask_at_desk(&self, host: &mut Host<D, N>, command: Command, bytes: &[u8]) -> End {
+    fn ask_at_desk(&self, host: &mut Host<B, O, N>, command: Command, bytes: &[u8]) -> End {
         let Some(pass) = self.pass_of(host) else {
             return ended("nobody");
         };
@@ -161,7 +168,7 @@ impl<W: Wait + Drop, D: Devices, N: Namings<Opened>> Array<Host<D, N>> for Share
         }
     }
 
-    fn hand_in(&self, host: &mut Host<D, N>, command: Command, bytes: &'static [u8]) -> End {
+    fn hand_in(&self, host: &mut Host<B, O, N>, command: Command, bytes: &'static [u8]) -> End {
         let Some(pass) = host.pass.take() else {
             return ended("nobody");
         };
@@ -180,7 +187,7 @@ impl<W: Wait + Drop, D: Devices, N: Namings<Opened>> Array<Host<D, N>> for Share
         }
     }
 
-    fn collect(&self, host: &mut Host<D, N>) -> End {
+    fn collect(&self, host: &mut Host<B, O, N>) -> End {
         let Some(ticket) = host.ticket.take() else {
             return ended("nobody");
         };
@@ -188,7 +195,7 @@ impl<W: Wait + Drop, D: Devices, N: Namings<Opened>> Array<Host<D, N>> for Share
         host.keep(pass, end)
     }
 
-    fn serve_own(&self, host: &mut Host<D, N>) -> End {
+    fn serve_own(&self, host: &mut Host<B, O, N>) -> End {
         let units = &self.units;
         let Some(ticket) = host.ticket.take() else {
             return ended("nobody");
@@ -200,15 +207,15 @@ impl<W: Wait + Drop, D: Devices, N: Namings<Opened>> Array<Host<D, N>> for Share
         host.keep(pass, end)
     }
 
-    fn data<'s>(&self, host: &'s Host<D, N>) -> &'s [u8] {
+    fn data<'s>(&self, host: &'s Host<B, O, N>) -> &'s [u8] {
         &host.data
     }
 
-    fn is_kept(&self, host: &Host<D, N>) -> bool {
+    fn is_kept(&self, host: &Host<B, O, N>) -> bool {
         host.data.capacity() >= ROOM
     }
 
-    fn reset(&self, host: &mut Host<D, N>) -> bool {
+    fn reset(&self, host: &mut Host<B, O, N>) -> bool {
         let Some(pass) = self.pass_of(host) else {
             return false;
         };
@@ -217,7 +224,7 @@ impl<W: Wait + Drop, D: Devices, N: Namings<Opened>> Array<Host<D, N>> for Share
         is_done
     }
 
-    fn retire(&self, host: &mut Host<D, N>) -> bool {
+    fn retire(&self, host: &mut Host<B, O, N>) -> bool {
         let Some(pass) = self.pass_of(host) else {
             return false;
         };
@@ -280,21 +287,18 @@ impl<W: Wait + Drop, D: Devices, N: Namings<Opened>> Array<Host<D, N>> for Share
 /// Shares these units, and tells a tale of them.
 pub fn tell<
     N: Namings<Opened> + Send + Sync,
-    D: Devices + Send + Sync,
+    B: Blocks + Send + Sync,
+    O: Opener<B> + Send + Sync,
     W: Threads + Wait + Clone + Send + Sync + Drop,
->(rt: &W, alloc: Global, new: Vec<NewUnit<D>>, tale: Tale<'_>) -> Result<(), Fail>
-where
-    D::Disk: Send + Sync,
-    D::File: Send + Sync,
-    D::Reopener: Send + Sync,
-    requires named { IsNamed N.book N.table N.opening D.Disk.contents new.items }
+>(rt: &W, alloc: Global, new: Vec<NewUnit<B, MemBlocks, O>>, tale: Tale<'_>) -> Result<(), Fail>
+    requires named { IsNamed N.book N.table N.opening B.contents new.items }
     requires count { length new.items ≤ 8 }
 {
-    let shared: Shared<W, D, N> = Shared {
+    let shared: Shared<W, B, O, N> = Shared {
         rt: rt.clone()?,
         alloc,
         units: Units::new(rt, alloc, new)?,
         desk: Desk::new(alloc, Group::One)?,
     };
-    happens::<W, Host<D, N>, Shared<W, D, N>>(rt, alloc, &shared, tale)
+    happens::<W, Host<B, O, N>, Shared<W, B, O, N>>(rt, alloc, &shared, tale)
 }

@@ -43,7 +43,7 @@ pub fn new_unit<B: Blocks, O: Opener<B>>(
     opener: O,
     unit: u8,
     units: u8,
-) -> Result<NewUnit<(B, MemBlocks, O)>, Fail> {
+) -> Result<NewUnit<B, MemBlocks, O>, Fail> {
     let unit = opened(alloc, blocks, opener, unit, units)?;
     Ok(NewUnit::new(alloc, unit)?)
 }

@@ -1,13 +1,14 @@
 //! An array as its console sees it.
 use array_administration::console;
 use array_operations::Operated;
+use block_file::{Blocks, Opener};
 use event_log::Log;
 use portal::{Controllers, Socket, Table};
 use std::alloc::Global;
 use std::sync::{Mutex, Wait};
 use std::test::Fail;
 use std::time::Clock;
-use unit_history::{Devices, Opened};
+use unit_history::Opened;
 use unit_sequence::Namings;
 
 /// What a script asks of an array, but not through its portals.
@@ -27,13 +28,14 @@ pub trait Console {
 
 /// The controllers of an array, and its sessions.
 #[derive(Drop)]
-pub struct Behind<'a, R: Wait, D: Devices, N: Namings<Opened>> {
+pub struct Behind<'a, R: Wait, B: Blocks, F: Blocks, O: Opener<B>, N: Namings<Opened>> {
     pub rt: &'a R,
-    pub controllers: &'a Controllers<D, N>,
+    pub controllers: &'a Controllers<B, F, O, N>,
     pub sessions: &'a Mutex<Table<Socket>>,
 }
 
-impl<R: Wait + Clock, D: Devices, N: Namings<Opened>> Console for Behind<'_, R, D, N> {
+impl<R: Wait + Clock, B: Blocks, F: Blocks, O: Opener<B>, N: Namings<Opened>> Console
+    for Behind<'_, R, B, F, O, N> {
     fn entries(&self, unit: u8) -> Option<u64> {
         let units = self.controllers.units();
         let place = usize::from(unit);

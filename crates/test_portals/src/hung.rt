@@ -37,7 +37,7 @@ fn timed<R: Threads + Wait + Clock + Clone + Drop + Send + Sync + 'static>(
     alloc: Global,
     latch: &Arc<Latch<R>, Global>,
     unit: u8,
-) -> Result<NewUnit<(Timed<R>, MemBlocks, DeadlinedOpener)>, Fail> {
+) -> Result<NewUnit<Timed<R>, MemBlocks, DeadlinedOpener>, Fail> {
     let held = HeldBlocks {
         inner: MemBlocks::new(alloc, BLOCKS)?,
         unit: usize::from(unit),
@@ -57,7 +57,7 @@ fn both<R: Threads + Wait + Clock + Clone + Drop + Send + Sync + 'static>(
     rt: &R,
     alloc: Global,
     latch: &Arc<Latch<R>, Global>,
-) -> Result<Vec<NewUnit<(Timed<R>, MemBlocks, DeadlinedOpener)>>, Fail>
+) -> Result<Vec<NewUnit<Timed<R>, MemBlocks, DeadlinedOpener>>, Fail>
     ensures { IfOk result (λ v. length v.items ≤ 8) }
 {
     let mut units = Vec::new(alloc);
@@ -101,5 +101,5 @@ fn a_device_that_hangs_has_failed(rt: HostRuntime) {
     let script = Script::new("a device that hangs has failed", script());
     let disk = Arc::new(alloc, Latch::open(rt.clone().expect(&rt, "memory"))).expect(&rt, "memory");
     let units = script.at(&rt).must(both(&rt, alloc, &disk));
-    let _ended = Machine::of(&rt).perform::<Brand, _>(units, &disk, &script);
+    let _ended = Machine::of(&rt).perform::<Brand, _, _, _>(units, &disk, &script);
 }

@@ -10,7 +10,7 @@ use crate::scene::{Portals, Scene};
 use crate::stage::Stage;
 use crate::units::{Faults, in_memory, opened};
 use array_units::Units;
-use block_file::{Blocks, FusedBlocks, FusedOpener, KeepOpener};
+use block_file::{Blocks, FusedBlocks, FusedOpener, KeepOpener, Opener};
 use event_log::Log;
 use portal::{Controllers, Logins, Server, SmallStacks, Stop, TargetDevice, listen, start_lanes};
 use scsi_types::Group;
@@ -24,7 +24,7 @@ use std::thread::{JoinHandle, Threads};
 use std::time::Clock;
 use test_connections::Host;
 use test_memory::Latch;
-use unit_history::{Devices, NewUnit, Opened};
+use unit_history::{NewUnit, Opened};
 use unit_sequence::Namings;
 
 /// What the hosts of an array do, of one unit or of two, and where it listens: at this address, and at these ports of its two
@@ -122,22 +122,19 @@ fn bind<R: Abort + Net<Listener = TcpListener, Stream = TcpStream>>(
 // Serves a portal of a group, whose controller has its lanes.
 fn serve<
     N: Namings<Opened> + Send + Sync + 'static,
-    D: Devices + Send + Sync + 'static,
+    B: Blocks + Send + Sync + 'static,
+    F: Blocks + Send + Sync + 'static,
+    O: Opener<B> + Send + Sync + 'static,
     R: Threads + Wait + Clock + Abort + Clone + Drop + Send + Sync + 'static,
 >(
     rt: &R,
     alloc: Global,
     listener: TcpListener,
-    server: &Arc<Server<Controllers<D, N>, Doors<R>>, Global>,
+    server: &Arc<Server<Controllers<B, F, O, N>, Doors<R>>, Global>,
     group: Group,
     stacks: NoRoom,
-) -> Served
-where
-    D::Disk: Send + Sync + 'static,
-    D::File: Send + Sync + 'static,
-    D::Reopener: Send + Sync + 'static,
-{
-    let _lanes = start_lanes::<N, D, Doors<R>, R, SmallStacks>(
+) -> Served {
+    let _lanes = start_lanes::<N, B, F, O, Doors<R>, R, SmallStacks>(
         rt,
         server,
         group,
@@ -172,20 +169,20 @@ fn performed<R: Abort + Eprint, S: Scene>(
 }
 
 // What serves these units, behind a gate at which nothing hangs yet, at these portals.
-fn server_of<N: Namings<Opened>, D: Devices, R>(
+fn server_of<N: Namings<Opened>, B: Blocks, F: Blocks, O: Opener<B>, R>(
     rt: &R,
     alloc: Global,
-    new: Vec<NewUnit<D>>,
+    new: Vec<NewUnit<B, F, O>>,
     first: SocketAddrV4,
     second: SocketAddrV4,
     log: Log,
-) -> Arc<Server<Controllers<D, N>, Doors<R>>, Global>
+) -> Arc<Server<Controllers<B, F, O, N>, Doors<R>>, Global>
 where
     R: Wait + Abort + Clone + Drop,
-    requires named { IsNamed N.book N.table N.opening D.Disk.contents new.items }
+    requires named { IsNamed N.book N.table N.opening B.contents new.items }
     requires count { length new.items ≤ 8 }
 {
-    let units = Units::<D, N>::new(rt, alloc, new).expect(rt, "memory");
+    let units = Units::<B, F, O, N>::new(rt, alloc, new).expect(rt, "memory");
     let controllers = Controllers::new(alloc, units).expect(rt, "memory");
     let server = Server {
         device: TargetDevice::new(alloc, controllers, gate(rt)),
@@ -210,12 +207,14 @@ fn gate<R: Wait + Abort + Clone + Drop>(rt: &R) -> Doors<R> {
 // Hosts perform a script before these portals: the hosts.
 fn performed_before<
     N: Namings<Opened>,
-    D: Devices,
+    B: Blocks,
+    F: Blocks,
+    O: Opener<B>,
     R: Wait + Clock + Abort + Eprint + Net<Listener = TcpListener, Stream = TcpStream> + Drop,
 >(
     rt: &R,
     alloc: Global,
-    server: &Server<Controllers<D, N>, Doors<R>>,
+    server: &Server<Controllers<B, F, O, N>, Doors<R>>,
     portals: [SocketAddrV4; 2],
     disk: &Latch<R>,
     script: &Script<'_>,
@@ -272,17 +271,18 @@ impl<
 > Machine<'_, R> {
     /// Serves these units, whose devices may hang at this latch, while hosts perform a script: the ports, and the hosts, whose
     /// sessions may still be open.
-    pub fn perform<N: Namings<Opened> + Send + Sync + 'static, D: Devices + Send + Sync + 'static>(
+    pub fn perform<
+        N: Namings<Opened> + Send + Sync + 'static,
+        B: Blocks + Send + Sync + 'static,
+        F: Blocks + Send + Sync + 'static,
+        O: Opener<B> + Send + Sync + 'static,
+    >(
         &self,
-        new: Vec<NewUnit<D>>,
+        new: Vec<NewUnit<B, F, O>>,
         disk: &Latch<R>,
         script: &Script<'_>,
     ) -> ([u16; 2], Vec<Host>)
-    where
-        D::Disk: Send + Sync + 'static,
-        D::File: Send + Sync + 'static,
-        D::Reopener: Send + Sync + 'static,
-        requires named { IsNamed N.book N.table N.opening D.Disk.contents new.items }
+        requires named { IsNamed N.book N.table N.opening B.contents new.items }
         requires count { length new.items ≤ 8 }
     {
         let Machine { rt, alloc, .. } = *self;
@@ -292,12 +292,12 @@ impl<
             first.set_nonblocking(true).expect(rt, "a portal");
             second.set_nonblocking(true).expect(rt, "a portal");
         }
-        let server = server_of::<N, D, R>(rt, alloc, new, first_at, second_at, self.log());
+        let server = server_of::<N, B, F, O, R>(rt, alloc, new, first_at, second_at, self.log());
         let stacks = NoRoom {
             refused: script.refused,
         };
-        let first = serve::<N, D, R>(rt, alloc, first, &server, Group::One, stacks);
-        let second = serve::<N, D, R>(rt, alloc, second, &server, Group::Two, stacks);
+        let first = serve::<N, B, F, O, R>(rt, alloc, first, &server, Group::One, stacks);
+        let second = serve::<N, B, F, O, R>(rt, alloc, second, &server, Group::Two, stacks);
         let portals = [found_at(first_at), found_at(second_at)];
         let hosts = performed_before(rt, alloc, &server, portals, disk, script);
         end(rt, first);
@@ -321,7 +321,7 @@ impl<
         let disk = Arc::new(alloc, latch).expect(rt, "memory");
         let units = in_memory(alloc, &disk, script.is_alone, script.opens);
         let units = script.at(rt).must(units);
-        let _ended = self.perform::<Brand, _>(units, &disk, script);
+        let _ended = self.perform::<Brand, _, _, _>(units, &disk, script);
     }
 
     /// Hosts perform each script of a table, and what they send goes out in pieces of so many bytes.
@@ -347,7 +347,7 @@ impl<
         let opener = FusedOpener::new(KeepOpener, faults.opened);
         let units = opened(self.alloc, blocks, opener, file);
         let units = script.at(self.rt).must(units);
-        self.perform::<Brand, _>(units, &disk, script)
+        self.perform::<Brand, _, _, _>(units, &disk, script)
     }
 
     /// Runs a story over the first devices, and behind the restart over the others of the same files.

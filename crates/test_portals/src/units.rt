@@ -20,7 +20,7 @@ use unit_state::{Unit, laws};
 const BLOCKS: u32 = 2048;
 
 /// A unit in memory, whose device may hang, and may not be opened anew.
-pub type HeldUnit<R> = NewUnit<(HeldBlocks<MemBlocks, R>, MemBlocks, Opens)>;
+pub type HeldUnit<R> = NewUnit<HeldBlocks<MemBlocks, R>, MemBlocks, Opens>;
 
 // A unit of zeros, of so many, which holds no registrations, whose device hangs at this latch, and is opened anew so often.
 fn held<R: Wait + Drop>(
@@ -119,7 +119,7 @@ pub fn opened<B: Blocks, F: Blocks, O: Opener<B>>(
     blocks: B,
     opener: O,
     file: F,
-) -> Result<Vec<NewUnit<(B, F, O)>>, Fail>
+) -> Result<Vec<NewUnit<B, F, O>>, Fail>
     ensures { IfOk result (λ v. length v.items ≤ 8) }
 {
     if blocks.count() == 0 {

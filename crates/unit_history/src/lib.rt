@@ -6,11 +6,9 @@
 //! answer. Nothing of a history is stored. A status board shows the row of each, for which no reader takes the lock.
 #![tactic(auto)]
 
-mod devices;
 mod new_unit;
 mod shared;
 
-pub use devices::Devices;
 pub use new_unit::NewUnit;
 pub use shared::{Board, LegalHistory, Pass, Seat, SharedUnit};
 pub use unit_entries::{Arrival, Noted, Opened};

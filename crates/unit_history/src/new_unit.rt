@@ -3,7 +3,7 @@
 ghost use Rattle.std.specs.Prelude.{◌≡◌, ◌<◌, IfOk};
 ghost use Rattle.unit_state.specs.Serials.{IsOpening};
 
-use crate::devices::Devices;
+use block_file::{Blocks, Opener};
 use scsi_types::NoMemory;
 use std::alloc::Global;
 use unit_entries::{Noted, Opened};
@@ -12,18 +12,15 @@ use unit_state::Unit;
 
 /// A unit of which nothing was asked yet, before it has a place: itself, and its lock.
 #[derive(Drop)]
-pub struct NewUnit<D: Devices> {
-    pub posted: NewLocked<Noted, Opened, Unit<D::Disk, D::File, D::Reopener>>,
-    pub unit: Unit<D::Disk, D::File, D::Reopener>,
+pub struct NewUnit<B: Blocks, F: Blocks, O: Opener<B>> {
+    pub posted: NewLocked<Noted, Opened, Unit<B, F, O>>,
+    pub unit: Unit<B, F, O>,
     pub ghost opens: { IsOpening unit.control },
 }
 
-impl<D: Devices> NewUnit<D> {
+impl<B: Blocks, F: Blocks, O: Opener<B>> NewUnit<B, F, O> {
     /// A unit as it opened. Where there is no memory for its board, it is dropped, with its devices.
-    pub fn new(
-        alloc: Global,
-        unit: Unit<D::Disk, D::File, D::Reopener>,
-    ) -> Result<NewUnit<D>, NoMemory>
+    pub fn new(alloc: Global, unit: Unit<B, F, O>) -> Result<NewUnit<B, F, O>, NoMemory>
         requires { IsOpening unit.control }
         ensures { IfOk result (λ new. new.unit ≡ unit) }
     {

@@ -3,7 +3,7 @@
 ghost use Rattle.unit_history.specs.Naming.{IsNamedAt};
 
 use crate::any_array::want;
-use block_file::{FusedOpener, KeepOpener, MemBlocks, ReplyMemory};
+use block_file::{Blocks, FusedOpener, KeepOpener, MemBlocks, Opener, ReplyMemory};
 use scsi_types::{Command, Group, PortName};
 use status::MOST_SEATS;
 use std::alloc::Global;
@@ -12,7 +12,7 @@ use std::sync::Wait;
 use std::test::*;
 use std::thread::{Threads, join};
 use test_memory::{Opens, new_unit};
-use unit_history::{Devices, NewUnit, Opened, Pass, Seat, SharedUnit};
+use unit_history::{NewUnit, Opened, Pass, Seat, SharedUnit};
 use unit_sequence::Namings;
 
 /// A unit that threads share, sessions S of it, and readers' seats T at its board.
@@ -35,36 +35,38 @@ trait Shared<S, T> {
 
 /// Such a unit, and what its calls want.
 #[derive(Drop)]
-struct Unit<W: Wait + Drop, D: Devices, N: Namings<Opened>> {
+struct Unit<W: Wait + Drop, B: Blocks, F: Blocks, O: Opener<B>, N: Namings<Opened>> {
     rt: W,
     alloc: Global,
-    unit: SharedUnit<D, N, 0>,
+    unit: SharedUnit<B, F, O, N, 0>,
 }
 
 /// A session. A call takes its pass out and puts it back.
 #[derive(Drop)]
-struct Session<D: Devices, N: Namings<Opened>> {
-    pass: Option<Pass<D, N>>,
+struct Session<B: Blocks, F: Blocks, O: Opener<B>, N: Namings<Opened>> {
+    pass: Option<Pass<B, F, O, N>>,
 }
 
-impl<D: Devices, N: Namings<Opened>> Session<D, N> {
+impl<B: Blocks, F: Blocks, O: Opener<B>, N: Namings<Opened>> Session<B, F, O, N> {
     // Takes the pass out, which is one of unit 0.
-    fn take(&mut self) -> Option<Pass<D, N>> {
+    fn take(&mut self) -> Option<Pass<B, F, O, N>> {
         let pass = self.pass.take()?;
         if pass.place() == 0 { Some(pass) } else { None }
     }
 }
 
-impl<W: Wait + Drop, D: Devices, N: Namings<Opened>> Shared<Session<D, N>, Seat<D, N, 0>>
-    for Unit<W, D, N> {
-    fn attach(&self, isid: u64) -> Option<Session<D, N>> {
+impl<W: Wait + Drop, B: Blocks, F: Blocks, O: Opener<B>, N: Namings<Opened>> Shared<
+    Session<B, F, O, N>,
+    Seat<B, F, O, N, 0>,
+> for Unit<W, B, F, O, N> {
+    fn attach(&self, isid: u64) -> Option<Session<B, F, O, N>> {
         let name = b"iqn.2000-01.test:a".to_vec(self.alloc).ok()?;
         let port = PortName::new(name, isid)?;
         let pass = self.unit.attach(&self.rt, port, Group::One).ok()?;
         Some(Session { pass: Some(pass) })
     }
 
-    fn serves(&self, session: &mut Session<D, N>) -> bool {
+    fn serves(&self, session: &mut Session<B, F, O, N>) -> bool {
         let Some(pass) = session.take() else {
             return false;
         };
@@ -84,18 +86,18 @@ impl<W: Wait + Drop, D: Devices, N: Namings<Opened>> Shared<Session<D, N>, Seat<
         end.is_ok()
     }
 
-    fn read(&self, seat: &mut Seat<D, N, 0>) -> u64 {
+    fn read(&self, seat: &mut Seat<B, F, O, N, 0>) -> u64 {
         self.unit.board().read(&self.rt, seat).entries
     }
 
-    fn seen(&self, session: &Session<D, N>) -> u64 {
+    fn seen(&self, session: &Session<B, F, O, N>) -> u64 {
         match &session.pass {
             Some(pass) => pass.len(),
             None => 0,
         }
     }
 
-    fn meet(&self, one: &mut Session<D, N>, two: &mut Session<D, N>) -> bool {
+    fn meet(&self, one: &mut Session<B, F, O, N>, two: &mut Session<B, F, O, N>) -> bool {
         let (Some(first), Some(second)) = (one.take(), two.take()) else {
             return false;
         };
@@ -214,22 +216,22 @@ fn happens<W: Threads + Sync, S: Send + Drop, T: Send, A: Shared<S, T> + Sync>(
 // Shares a unit.
 fn share<
     N: Namings<Opened> + Send + Sync,
-    D: Devices + Send + Sync,
+    B: Blocks + Send + Sync,
+    F: Blocks + Send + Sync,
+    O: Opener<B> + Send + Sync,
     W: Threads + Wait + Clone + Send + Sync + Drop,
->(rt: &W, alloc: Global, new: NewUnit<D>) -> Result<(), Fail>
-where
-    D::Disk: Send + Sync,
-    D::File: Send + Sync,
-    D::Reopener: Send + Sync,
-    requires { IsNamedAt N.book N.table N.opening D.Disk.contents 0 new }
+>(rt: &W, alloc: Global, new: NewUnit<B, F, O>) -> Result<(), Fail>
+    requires { IsNamedAt N.book N.table N.opening B.contents 0 new }
 {
-    let (unit, mut seats) = SharedUnit::<D, N, 0>::new(rt, alloc, new, MOST_SEATS)?;
+    let (unit, mut seats) = SharedUnit::<B, F, O, N, 0>::new(rt, alloc, new, MOST_SEATS)?;
     let unit = Unit {
         rt: rt.clone()?,
         alloc,
         unit,
     };
-    happens::<W, Session<D, N>, Seat<D, N, 0>, Unit<W, D, N>>(rt, &unit, &mut seats)
+    happens::<W, Session<B, F, O, N>, Seat<B, F, O, N, 0>, Unit<W, B, F, O, N>>(
+        rt, &unit, &mut seats,
+    )
 }
 
 #[test]
@@ -237,5 +239,5 @@ fn two_sessions_meet_beside_as_many_readers_as_there_may_be(rt: HostRuntime) -> 
     let alloc = rt.alloc();
     let opener: Opens = FusedOpener::new(KeepOpener, u64::MAX);
     let new = new_unit(alloc, MemBlocks::new(alloc, 16)?, opener, 0, 1)?;
-    share::<Brand, _, _>(&rt, alloc, new)
+    share::<Brand, _, _, _, _>(&rt, alloc, new)
 }
