@@ -18,22 +18,15 @@ pub fn with_value(alloc: Global, option: &str, value: &str) -> Result<String, Al
     format!(in alloc; "{option} {value}")
 }
 
-// The value that an option has among the words, the last where it has several.
+// The value behind an option among the words; nothing where none stands there by itself.
 fn value_of<'a>(words: &'a [String], option: &str) -> &'a str {
-    let mut value = "";
-    let mut is_next = false;
-    for word in words {
-        let word = word.as_str();
-        if is_next {
-            value = word;
-        } else if let Some(rest) = word.strip_prefix(option)
-            && let Some(given) = rest.strip_prefix('=')
-        {
-            value = given;
-        }
-        is_next = !is_next && word == option;
+    let Some(place) = words.iter().position(|word| word.as_str() == option) else {
+        return "";
+    };
+    match words.get(place.saturating_add(1)) {
+        Some(value) => value.as_str(),
+        None => "",
     }
-    value
 }
 
 // Whether a disk is among the words, of which the first is the program's name.
