@@ -23,7 +23,7 @@ ROWS = [
     ("", WRONG, "no DISK"), ("--port 3260 --array=1", WRONG, "no DISK"), ("--help disk", WRONG, "--help beside other words"),
     ("--once --version", WRONG, "--version beside other words"), ("--port 0 disk", WRONG, "--port"),
     ("--port 65529 disk", WRONG, "65529"), ("--portals 5 disk", WRONG, "--portals"), ("--array 4294967296 disk", WRONG, "4294967296"),
-    ("--host localhost disk", WRONG, "--host localhost"), ("--host=::1 disk", WRONG, "--host ::1"), ("--target= disk", WRONG, "--target"),
+    ("--host localhost disk", WRONG, "--host localhost"), ("--host=::1 disk", WRONG, "--host"), ("--target= disk", WRONG, "--target"),
     ("--target array disk", WRONG, "--target array"), ("--target iqn.2000-01.Test:array disk", WRONG, "--target"),
     ("--target iqn.2000-1.test:array disk", WRONG, "--target"), ("--target eui.0123456789abcde disk", WRONG, "--target"), ("--once disk", WRONG, "a DISK beside --once"),
     ("1 2 3 4 5 6 7 8 9", WRONG, "more than 8 times DISK"), ("--onc", WRONG, "--onc"),
