@@ -378,21 +378,24 @@ class GivenUp(Session):
 
 @case
 def login_that_was_given_up(folder):
-    """It waits for its turn, and does not end the session that lives by then."""
+    """It waits for a unit, or for its turn behind one that does, and does not end the session that lives by then."""
     slow = {"LD_PRELOAD": library("bench/slow_disk.c", folder), "SLOW_DISK": folder, "SLOW_FLUSH": "3000000"}
-    with Array([made(folder + "/disk", 16)], more=slow) as array:
-        living, other = login(number=5), login(number=6)
-        other.submit(0, [0x28, 8, 0, 0, 0, 0, 0, 0, 1], expected=512)
-        time.sleep(0.5)
-        waits = threading.Thread(target=login, kwargs={"number": 7})
-        waits.start()
-        time.sleep(0.5)
-        with contextlib.suppress(Closed):
-            GivenUp(*array.portal(1), TARGET, "iqn.2000-01.test:host", ISID + 5)
-        waits.join()
-        time.sleep(0.5)
-        is_so("the session goes on", write(living), GOOD)
-        array.quit()
+    for waiting in (0, 1):
+        with Array([made(folder + f"/disk{waiting}", 16)], more=slow) as array:
+            living, other = login(number=5), login(number=6)
+            other.submit(0, [0x28, 8, 0, 0, 0, 0, 0, 0, 1], expected=512)
+            time.sleep(0.5)
+            before = [threading.Thread(target=login, kwargs={"number": 7}) for _ in range(waiting)]
+            for one in before:
+                one.start()
+            time.sleep(0.5)
+            with contextlib.suppress(Closed):
+                GivenUp(*array.portal(1), TARGET, "iqn.2000-01.test:host", ISID + 5)
+            for one in before:
+                one.join()
+            time.sleep(0.5 if waiting else 4)
+            is_so(f"the session goes on, {waiting} before it", write(living), GOOD)
+            array.quit()
 
 
 @case

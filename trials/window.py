@@ -550,6 +550,22 @@ def registration_file_that_hangs(folder):
             array.quit()
 
 
+@case
+def array_that_ends(folder):
+    """From `quit` on it is not well, also while its flush waits for a disk."""
+    with Mounted(folder) as place:
+        with Array(place.that_hangs(), more={"ARRAYD_HTTP": f"127.0.0.1:{AT}"}) as array:
+            session = host()
+            is_so("a write", write(session, 0), GOOD)
+            is_so("well", get("/health")[::2], (200, b"ok\n"))
+            with place.frozen():
+                array.tell("quit")
+                ends = (503, b"The array ends: it takes no command in any more.\n")
+                is_so("it ends", until(lambda: get("/health")[::2] == ends, 5), True)
+                is_so("in numbers", value(metrics(), "arrayd_problems"), 1)
+            is_so("it has ended", array.process.wait(30), 0)
+
+
 # ---- what may be asked, and by how many
 
 @case

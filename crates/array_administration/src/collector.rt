@@ -317,7 +317,8 @@ impl<R: Wait + Clock + Drop, A: Administered + Drop> Collector for ArrayCollecto
         let units = units_of(&self.rt, alloc, array, &self.fixed, &seen, shown)?;
         let controllers = controllers_of(alloc, array, &units, &seen)?;
         let degraded = array_view::degraded(alloc, &units, &controllers)?;
-        let problems = array_view::problems(alloc, &units, array.log().is_failing())?;
+        let log = array.log();
+        let problems = array_view::problems(alloc, &units, log.is_stopping(), log.is_failing())?;
         Ok(ArrayView {
             version: self.fixed.version,
             target: self.fixed.target.clone()?,

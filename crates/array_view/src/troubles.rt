@@ -369,13 +369,17 @@ fn of_units(
     Ok(())
 }
 
-/// What is wrong with these units, and with a log that cannot be written, a sentence each.
+/// What is wrong with these units, with an array that ends, and with a log that cannot be written, a sentence each.
 pub fn problems(
     alloc: Global,
     units: &[UnitView],
+    is_stopping: bool,
     log_fails: bool,
 ) -> Result<Vec<String>, AllocError> {
     let mut problems = Vec::new(alloc);
+    if is_stopping {
+        problems.push(format!(in alloc; "The array ends: it takes no command in any more.")?)?;
+    }
     if log_fails {
         problems.push(format!(in alloc; "The log cannot be written.")?)?;
     }

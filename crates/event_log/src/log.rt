@@ -231,6 +231,14 @@ impl Log {
         }
     }
 
+    /// Whether the array ends, where that is counted.
+    pub fn is_stopping(&self) -> bool {
+        match &self.meters {
+            Some(meters) => meters.is_stopping(),
+            None => false,
+        }
+    }
+
     /// How many calls of a kind failed on a file of a unit, where that is counted.
     pub fn failed(&self, unit: u8, part: Part, call: Call) -> u64 {
         match &self.meters {

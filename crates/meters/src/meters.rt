@@ -79,6 +79,8 @@ pub struct Meters {
     happened: Ledger,
     // How often an administrator has ended the array by the control socket, and was told how that went.
     quits: AtomicU64,
+    // How often the array was told to end.
+    stops: AtomicU64,
     // What the clock said when it was looked at last, in microseconds of the one that never goes back: several times a second, so that
     // a command that begins, or a call that fails, has a time and no look of its own.
     ticks: Arc<AtomicU64, Global>,
@@ -361,6 +363,7 @@ impl Meters {
             book: Mutex::new(book),
             happened: Ledger::new(alloc, units)?,
             quits: AtomicU64::new(0),
+            stops: AtomicU64::new(0),
             ticks: Arc::new(alloc, AtomicU64::new(0))?,
         })
     }
@@ -389,7 +392,15 @@ impl Meters {
 
     /// Counts an event.
     pub fn happened(&self, event: &Event<'_>) {
+        if let Event::Stopping = event {
+            let _ = self.stops.fetch_add(1, Ordering::SeqCst);
+        }
         self.happened.count(self.now(), event);
+    }
+
+    /// Whether the array ends: it takes no command in any more.
+    pub fn is_stopping(&self) -> bool {
+        self.stops.load(Ordering::SeqCst) != 0
     }
 
     /// How many calls of a kind failed on a file of a unit.
