@@ -77,7 +77,13 @@ impl<B: Blocks, F: Blocks, O: Opener<B>, N: Namings<Opened>> Mailbox<B, F, O, N>
     // A mailbox without an answer, shared by two.
     fn shared(
         alloc: Global,
-    ) -> Result<(Arc<Mailbox<B, F, O, N>, Global>, Arc<Mailbox<B, F, O, N>, Global>), NoMemory> {
+    ) -> Result<
+        (
+            Arc<Mailbox<B, F, O, N>, Global>,
+            Arc<Mailbox<B, F, O, N>, Global>,
+        ),
+        NoMemory,
+    > {
         let mailbox = Mailbox {
             answer: Mutex::new(None),
             filled: Condvar::new(),
