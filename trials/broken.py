@@ -28,7 +28,7 @@ BROKEN = {
                           "        Some(at) if blocks > 1 => MediumEnd::Miscompare(at),\n        _ =>", "first_steps.py", "is a miscompare"),
     "faults": Broken(ONE, "crates/array/src/disks.rt", '"it is no registration file"', '"it is of another version"', "faults.py",
                      "does not name 'it is no registration file"),
-    "reservations": Broken(ONE, "crates/reservations/src/preempt.rt", "registrants.clear();\n        self.count();",
+    "reservations": Broken(ONE, "crates/reservations/src/remove.rt", "registrants.clear();\n        self.count();",
                            "registrants.clear();", "reservations.py --requests 300", "PERSISTENT RESERVE IN"),
     "control": Broken(ONE, "crates/array_administration/src/control.rt", "OWNER_ALONE: u32 = 0o600", "OWNER_ALONE: u32 = 0o666",
                       "control.py owner_alone", "a socket: (True, 438)"),
@@ -59,7 +59,7 @@ BROKEN = {
                       "StepEnd::NoMemory => TargetAnswer::Gone", "refused.py", "refused.py: three commands, allocation"),
     "standstill": Broken(ONE, "crates/deadline/src/watch.rt", "call, time));\n        self.is_hung.store(false, Ordering::Release);\n",
                          "call, time));\n", "standstill.py disk_that_hangs_and_comes_back", "WRONG disk_that_hangs_and_comes_back: Failed"),
-    "fencing": Broken(OTHER, "crates/reservations/src/preempt.rt", "        retain_without_others_of_key(&mut self.registrants",
+    "fencing": Broken(OTHER, "crates/reservations/src/remove.rt", "        retain_without_others_of_key(&mut self.registrants",
                       "        if !kind.is_of_all_registrants() && request.kind != 6 {\n            self.count();\n"
                       "            return good(nexus, notice);\n        }\n"
                       "        retain_without_others_of_key(&mut self.registrants", "fencing.py", "WRONG B1 READ KEYS"),

@@ -274,7 +274,7 @@ def step_by_step(run):
     session.logout()
 
 
-# How many allocations come behind each of its PDUs at most: a command has the slot of its job, and two for a copy of its data.
+# How many allocations come behind each of its PDUs at most: a command has the mailbox of its job, and two for a copy of its data.
 STEPS = (
     ("first Login Request", 0),
     ("last Login Request", 99),

@@ -24,7 +24,7 @@ const OWNER_ALONE: u32 = 0o600;
 const ATTENDANTS: u32 = 8;
 
 /// For so many seconds may a connection be silent, or take nothing.
-const PATIENCE: u64 = 10;
+const SILENCE: u64 = 10;
 
 /// A connection is read so many bytes, and closed then.
 const MOST: u64 = 65536;
@@ -56,7 +56,7 @@ impl<R: Wait + Clock + Drop, A: Administered + Drop> Drop for ControlSocket<R, A
 impl<R: Wait + Clock + Drop, A: Administered + Drop> ControlSocket<R, A> {
     // Answers the lines of a connection, until its end. Behind the answer to one that ends the array the program ends.
     fn attend(&self, alloc: Global, stream: &UnixStream) -> io::Result<()> {
-        let patience = Some(Duration::from_secs(PATIENCE));
+        let patience = Some(Duration::from_secs(SILENCE));
         stream.set_read_timeout(patience)?;
         stream.set_write_timeout(patience)?;
         let mut writer = stream;

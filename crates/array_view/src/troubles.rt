@@ -11,7 +11,7 @@ use std::time::Duration;
 const HANGS: u64 = 10_000_000;
 
 /// One that is served for so many waits for a disk that is slow.
-const SLOW: u64 = 1_000_000;
+const SLOW_COMMAND: u64 = 1_000_000;
 
 /// Where calls are counted, the place of the flushes, which is the last one.
 const FLUSHES: usize = 4;
@@ -215,7 +215,7 @@ impl Signs<'_> {
     fn show(&self, trouble: Trouble) -> bool {
         let is_long = match trouble {
             Trouble::Hangs => self.oldest >= HANGS,
-            Trouble::Slow => self.oldest >= SLOW && self.oldest < HANGS,
+            Trouble::Slow => self.oldest >= SLOW_COMMAND && self.oldest < HANGS,
             _ => false,
         };
         match self.seen {

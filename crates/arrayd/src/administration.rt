@@ -1,7 +1,7 @@
 //! What the environment asks for to administer the array by: the window and the control socket.
 
 use crate::settings::value_of;
-use crate::told::VERSION;
+use crate::usage::VERSION;
 use array::{Administration, bind_window};
 use command_line::Fault;
 use event_log::Log;

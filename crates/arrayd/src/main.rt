@@ -11,7 +11,7 @@ mod once;
 mod settings;
 mod standard;
 mod target_name;
-mod told;
+mod usage;
 mod wrong_words;
 
 use administration::Asked;
@@ -184,7 +184,7 @@ fn asked<
 >(rt: &R, alloc: Global, words: &'a [String]) -> Result<(Options<'a>, Settings), ExitCode>
     ensures few { IfOk result (λ found. length found.0.paths.items ≤ MAX_UNITS) }
 {
-    if told::tells(rt, words) {
+    if usage::tells(rt, words) {
         return Err(ExitCode::SUCCESS);
     }
     let mut options = options_of(rt, alloc, words)?;
@@ -253,7 +253,7 @@ fn main(rt: HostRuntime) -> ExitCode {
         if start::<HostRuntime, LogFile<HostRuntime>>(&rt, alloc, &log, file).is_err() {
             return complain(&rt, Fault::NoMemory, "");
         }
-        log.tell(&rt, &Event::Started(told::VERSION.as_bytes()));
+        log.tell(&rt, &Event::Started(usage::VERSION.as_bytes()));
     }
     let administration = match asked.opened(&rt, &log) {
         Ok(administration) => administration,

@@ -3,7 +3,7 @@
 use block_file::MemBlocks;
 use command_line::Fault;
 use once_target::once;
-use session::{End, Identity, Watched};
+use session::{End, TargetRecord, Watched};
 use std::alloc::Global;
 use std::io;
 use std::net::{Ipv4Addr, SocketAddrV4};
@@ -24,7 +24,7 @@ pub fn serve_once<R: Input + Print>(rt: &R, alloc: Global) -> Result<(), Fault> 
     let blocks = MemBlocks::new(alloc, BLOCKS)?;
     let mut source = Watched::new(rt.reader());
     let mut sink = Watched::new(io::writer(rt));
-    let me = Identity {
+    let me = TargetRecord {
         target_name: TARGET_NAME,
         first: &portal(3260),
         second: &portal(3264),

@@ -22,8 +22,8 @@ const SHORT_BYTES: usize = 16384;
 /// Places for long runs.
 const LONG_PLACES: usize = 8;
 
-/// A longer run is never read ahead.
-const MOST_BLOCKS: u16 = 512;
+/// A run of more blocks is never read ahead.
+const LONGEST_RUN: u16 = 512;
 
 /// Words of the table, by bits of their index. A run has the word of its first block, whatever its length; a later run with the same word
 /// takes it.
@@ -204,7 +204,7 @@ impl Ahead {
 
     /// Whether it pays to read so many blocks ahead. While too many were in vain, each question counts.
     pub(crate) fn pays(&self, blocks: u16) -> bool {
-        blocks <= MOST_BLOCKS
+        blocks <= LONGEST_RUN
             && (self.in_vain.load(Ordering::Relaxed) < IN_VAIN
                 || self.asked_in_vain.fetch_add(1, Ordering::Relaxed) % TRIED_OF < TRIED)
     }

@@ -19,7 +19,7 @@ const STACK: usize = 256 * 1024;
 const SLEEP: u64 = 60;
 
 /// So many milliseconds at most does the end of a program wait for its last lines.
-const PATIENCE: u64 = 1000;
+const CLOSING: u64 = 1000;
 
 /// Where lines are written.
 pub trait Page {
@@ -165,7 +165,7 @@ pub fn close<R: Clock>(rt: &R, log: &Log) {
     };
     shared.end.store(1, Ordering::SeqCst);
     shared.bell.unpark();
-    for _ in 0..PATIENCE {
+    for _ in 0..CLOSING {
         if shared.end.load(Ordering::SeqCst) == 2 {
             break;
         }

@@ -34,7 +34,7 @@ const MOST: usize = 16384;
 
 /// A read that takes so many microseconds came from the disk, and not from the memory of the system; one of many bytes may take
 /// one more for each so many of them.
-const SLOW: u64 = 25;
+const SLOW_READ: u64 = 25;
 
 const FOR_BYTES: usize = 4096;
 
@@ -311,7 +311,7 @@ impl<R: Clock + Wait + Drop, F: LastingFile> FilePreparer<R, F> {
         let Ok(ended) = self.rt.monotonic() else {
             return;
         };
-        let slow = SLOW + (length / FOR_BYTES) as u64;
+        let slow = SLOW_READ + (length / FOR_BYTES) as u64;
         self.count(ended.saturating_sub(begun) >= Duration::from_micros(slow));
     }
 

@@ -38,6 +38,12 @@ pub enum DeskFault {
     NoMemory,
 }
 
+/// What a command comes to: its pass, and what the unit said, or why the desk asked no unit.
+type Settled<B, F, O, N> = (
+    Pass<B, F, O, N>,
+    Result<Result<Reply, Refused<Group>>, DeskFault>,
+);
+
 /// The desk of a controller, by way of which the workers of both controllers' sessions have commands served of the units that
 /// the controller owns: past its queue, or as jobs in it, which the lanes of the controller serve, or the workers that put them
 /// there. What waits stands on a cache line of its own. Contracts see the controller's group.
@@ -251,10 +257,7 @@ impl<B: Blocks, F: Blocks, O: Opener<B>, N: Namings<Opened>> Desk<B, F, O, N> {
         pass: Pass<B, F, O, N>,
         asked: &Asked,
         bytes: &[u8],
-    ) -> (
-        Pass<B, F, O, N>,
-        Result<Result<Reply, Refused<Group>>, DeskFault>,
-    )
+    ) -> Settled<B, F, O, N>
         requires { pass.place < units.now }
         ensures { IsSettled (devices B.Blocks F.Blocks O.Opener) (N.opening pass.place) pass
             (handed_of pass asked.now bytes.now self.now) result.0 result.1 }
@@ -276,10 +279,7 @@ impl<B: Blocks, F: Blocks, O: Opener<B>, N: Namings<Opened>> Desk<B, F, O, N> {
         pass: Pass<B, F, O, N>,
         asked: &Asked,
         bytes: &[u8],
-    ) -> (
-        Pass<B, F, O, N>,
-        Result<Result<Reply, Refused<Group>>, DeskFault>,
-    )
+    ) -> Settled<B, F, O, N>
         requires { pass.place < units.now }
         ensures { IsSettled (devices B.Blocks F.Blocks O.Opener) (N.opening pass.place) pass
             (handed_of pass asked.now bytes.now self.now) result.0 result.1 }
@@ -308,10 +308,7 @@ impl<B: Blocks, F: Blocks, O: Opener<B>, N: Namings<Opened>> Desk<B, F, O, N> {
         pass: Pass<B, F, O, N>,
         asked: &Asked,
         bytes: &[u8],
-    ) -> (
-        Pass<B, F, O, N>,
-        Result<Result<Reply, Refused<Group>>, DeskFault>,
-    )
+    ) -> Settled<B, F, O, N>
         requires { pass.place < units.now }
         ensures { IsSettled (devices B.Blocks F.Blocks O.Opener) (N.opening pass.place) pass
             (handed_of pass asked.now bytes.now self.now) result.0 result.1 }

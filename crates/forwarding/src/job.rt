@@ -59,12 +59,12 @@ impl<B: Blocks, F: Blocks, O: Opener<B>, N: Namings<Opened>> Ended<B, F, O, N> {
 }
 
 // Where an answer comes. It is made when its job is handed in.
-struct Slot<B: Blocks, F: Blocks, O: Opener<B>, N: Namings<Opened>> {
+struct Mailbox<B: Blocks, F: Blocks, O: Opener<B>, N: Namings<Opened>> {
     answer: Mutex<Option<Ended<B, F, O, N>>>,
     filled: Condvar,
 }
 
-impl<B: Blocks, F: Blocks, O: Opener<B>, N: Namings<Opened>> Drop for Slot<B, F, O, N> {
+impl<B: Blocks, F: Blocks, O: Opener<B>, N: Namings<Opened>> Drop for Mailbox<B, F, O, N> {
     fn drop(self) {
         let Self {
             answer: _,
@@ -73,34 +73,40 @@ impl<B: Blocks, F: Blocks, O: Opener<B>, N: Namings<Opened>> Drop for Slot<B, F,
     }
 }
 
-impl<B: Blocks, F: Blocks, O: Opener<B>, N: Namings<Opened>> Slot<B, F, O, N> {
-    // A slot without an answer, shared by two.
+impl<B: Blocks, F: Blocks, O: Opener<B>, N: Namings<Opened>> Mailbox<B, F, O, N> {
+    // A mailbox without an answer, shared by two.
     fn shared(
         alloc: Global,
-    ) -> Result<(Arc<Slot<B, F, O, N>, Global>, Arc<Slot<B, F, O, N>, Global>), NoMemory> {
-        let slot = Slot {
+    ) -> Result<
+        (
+            Arc<Mailbox<B, F, O, N>, Global>,
+            Arc<Mailbox<B, F, O, N>, Global>,
+        ),
+        NoMemory,
+    > {
+        let mailbox = Mailbox {
             answer: Mutex::new(None),
             filled: Condvar::new(),
         };
-        let Ok(mine) = Arc::new(alloc, slot) else {
+        let Ok(mine) = Arc::new(alloc, mailbox) else {
             return Err(NoMemory);
         };
         match Arc::try_clone(&mine) {
-            Ok(slot) => Ok((mine, slot)),
+            Ok(mailbox) => Ok((mine, mailbox)),
             Err(_) => Err(NoMemory),
         }
     }
 }
 
 // A command of a session in a desk's queue: the session's pass and the memory for its reply, which go with it, a copy of the data that
-// came, and the slot of its answer.
+// came, and the mailbox of its answer.
 #[derive(Drop)]
 pub(crate) struct Waiting<B: Blocks, F: Blocks, O: Opener<B>, N: Namings<Opened>> {
     pub(crate) pass: Pass<B, F, O, N>,
     pub(crate) room: ReplyMemory,
     asked: Asked,
     bytes: Vec<u8>,
-    slot: Arc<Slot<B, F, O, N>, Global>,
+    mailbox: Arc<Mailbox<B, F, O, N>, Global>,
 }
 
 /// A job that was taken from the desk of a group. Contracts see what it is known by, its data, and what its pass has seen.
@@ -152,7 +158,7 @@ impl<B: Blocks, F: Blocks, O: Opener<B>, N: Namings<Opened>> Job<B, F, O, N> {
             room,
             asked,
             bytes,
-            slot,
+            mailbox,
         } = waiting;
         let names = named(&pass, &asked, by_group);
         let before = pass.history();
@@ -165,20 +171,23 @@ impl<B: Blocks, F: Blocks, O: Opener<B>, N: Namings<Opened>> Job<B, F, O, N> {
                 pass,
                 end,
             },
-            slot,
+            mailbox,
         }
     }
 }
 
-/// What a job came to, with the slot that it goes to. Contracts see the job, what its pass has seen since, and the end.
+/// What a job came to, with the mailbox that it goes to. Contracts see the job, what its pass has seen since, and the end.
 pub struct Answer<B: Blocks, F: Blocks, O: Opener<B>, N: Namings<Opened>> {
     ended: Ended<B, F, O, N>,
-    slot: Arc<Slot<B, F, O, N>, Global>,
+    mailbox: Arc<Mailbox<B, F, O, N>, Global>,
 }
 
 impl<B: Blocks, F: Blocks, O: Opener<B>, N: Namings<Opened>> Drop for Answer<B, F, O, N> {
     fn drop(self) {
-        let Self { ended: _, slot: _ } = self;
+        let Self {
+            ended: _,
+            mailbox: _,
+        } = self;
     }
 }
 
@@ -193,9 +202,9 @@ impl<B: Blocks, F: Blocks, O: Opener<B>, N: Namings<Opened>> Model for Answer<B,
 impl<B: Blocks, F: Blocks, O: Opener<B>, N: Namings<Opened>> Answer<B, F, O, N> {
     // Puts it where its ticket waits. It takes no memory.
     pub(crate) fn post<W: Wait>(self, rt: &W) {
-        let Answer { ended, slot } = self;
-        *slot.answer.lock(rt) = Some(ended);
-        slot.filled.notify_one();
+        let Answer { ended, mailbox } = self;
+        *mailbox.answer.lock(rt) = Some(ended);
+        mailbox.filled.notify_one();
     }
 }
 
@@ -205,7 +214,7 @@ pub struct Ticket<'a, B: Blocks, F: Blocks, O: Opener<B>, N: Namings<Opened>> {
     names: Names,
     bytes: &'a [u8],
     seen: LegalHistory<B, F, O, N>,
-    slot: Arc<Slot<B, F, O, N>, Global>,
+    mailbox: Arc<Mailbox<B, F, O, N>, Global>,
 }
 
 impl<B: Blocks, F: Blocks, O: Opener<B>, N: Namings<Opened>> Drop for Ticket<'_, B, F, O, N> {
@@ -214,7 +223,7 @@ impl<B: Blocks, F: Blocks, O: Opener<B>, N: Namings<Opened>> Drop for Ticket<'_,
             names: _,
             bytes: _,
             seen: _,
-            slot: _,
+            mailbox: _,
         } = self;
     }
 }
@@ -282,8 +291,8 @@ impl<'a, B: Blocks, F: Blocks, O: Opener<B>, N: Namings<Opened>> Ticket<'a, B, F
     fn ended<W: Wait>(&self, rt: &W) -> Ended<B, F, O, N>
         ensures { result.job ≡ self.now }
     {
-        let held = self.slot.answer.lock(rt);
-        let mut held = self.slot.filled.wait_while(rt, held, |held| {
+        let held = self.mailbox.answer.lock(rt);
+        let mut held = self.mailbox.filled.wait_while(rt, held, |held| {
             !is_for(held, &self.names, self.bytes, &self.seen)
         });
         match held.take() {
@@ -322,21 +331,21 @@ pub(crate) fn prepare<'a, B: Blocks, F: Blocks, O: Opener<B>, N: Namings<Opened>
     let Ok(copy) = bytes.to_vec(room.alloc()) else {
         return Err((pass, room));
     };
-    let Ok((mine, slot)) = Slot::shared(room.alloc()) else {
+    let Ok((mine, mailbox)) = Mailbox::shared(room.alloc()) else {
         return Err((pass, room));
     };
     let ticket = Ticket {
         names: named(&pass, asked, by_group),
         bytes,
         seen: pass.history(),
-        slot: mine,
+        mailbox: mine,
     };
     let waiting = Waiting {
         pass,
         room,
         asked: *asked,
         bytes: copy,
-        slot,
+        mailbox,
     };
     Ok((ticket, waiting))
 }

@@ -20,7 +20,7 @@ use Rattle.session_rules.specs.declared.end.End.{End}
 use Rattle.std.specs.Prelude.{map, ◌++◌}
 use Rattle.std.specs.Io.KnownBytes.{IsAtEnd}
 use Rattle.login.specs.declared.status.SessionType.TheVariants.{Normal}
-use Rattle.session_rules.specs.declared.identity.Identity.{Identity}
+use Rattle.session_rules.specs.declared.target_record.TargetRecord.{TargetRecord}
 use Rattle.session_rules.specs.declared.opening.Opening.TheVariants.{FullFeature}
 use Rattle.session_rules.specs.declared.start.Start.{Start}
 use Rattle.session_rules.specs.Ends.{EndsBy}
@@ -399,7 +399,7 @@ module _ {B : Type 0} (d : Device B) (f : Device MemBlocks) where
       asked_next c cs s x led.0 x' zero_is m led.1 (λ s' z m'. story cs s' led.0 x' z m' led.2)
 
 -- the whole of it
-pub is_once : {B : Type 0} (me : Identity) (start : Start) (d : Device B) (f : Device MemBlocks) (streams : Streams)
+pub is_once : {B : Type 0} (me : TargetRecord) (start : Start) (d : Device B) (f : Device MemBlocks) (streams : Streams)
     (blocks : B) (handed : B × MemBlocks) (x x' : TargetValue B) (end : End)
     → IsBegun d f blocks x
     → IsTranscribed (LeadsOn d f) 1 me (FullFeature Normal start) streams.left streams.left_after streams.held

@@ -9,7 +9,7 @@ use crate::target::OneUnit;
 use block_file::{Blocks, MemBlocks};
 use login::SessionType;
 use scsi_types::NoMemory;
-use session::{End, Identity, Lengths, Opening, Sink, Source, Start, serve_stream};
+use session::{End, Lengths, Opening, Sink, Source, Start, TargetRecord, serve_stream};
 use std::alloc::Global;
 
 /// Serves one session in full feature phase, of initiator `iqn.2000-01.test:host` with ISID 0 through group 1, over
@@ -21,7 +21,7 @@ pub fn once<S: Source, K: Sink, B: Blocks>(
     source: &mut S,
     sink: &mut K,
     blocks: B,
-    me: &Identity<'_>,
+    me: &TargetRecord<'_>,
 ) -> Result<(End, B, MemBlocks), NoMemory>
     requires { 0 < B.size blocks }
     ensures served { IfOk result (λ r. IsOnce (setting_of 1 me.now SessionType.Normal from_one)

@@ -4,7 +4,7 @@ use Rattle.std.proofs.Common.{inl, inr, append_assoc, length-append, sym, ◌<�
 use Rattle.std.proofs.lemmas.List.{append-nil, map-append}
 use Rattle.session_rules.specs.Words.{AllByRecursion, option_or, Progress, beginning, kind_in, SessionType}
 use Rattle.session_rules.specs.{Asking.Asking, Setting.Setting, Setting.setting_of, Turn.Incoming, Turn.Turn, Window.wrap}
-use Rattle.session_rules.specs.declared.{end.End.End, identity.Identity.Identity, login_outcome.LoginOutcome.LoginOutcome}
+use Rattle.session_rules.specs.declared.{end.End.End, target_record.TargetRecord.TargetRecord, login_outcome.LoginOutcome.LoginOutcome}
 use Rattle.session_rules.specs.declared.{start.Start.Start}
 use Rattle.session_rules.specs.declared.opening.Opening.{Opening, TheVariants.Login, TheVariants.FullFeature}
 use Rattle.session_rules.specs.Legal.{bhs_of, end_after, GoesOn, Lawful}
@@ -94,7 +94,7 @@ login_more target tag ls l = rw (progress_more (beginning target tag) ls l, firs
 -- ---- what is known between two turns
 
 -- a login that goes on, of a session for which full feature phase waits
-pub record LogsIn (units : ℕ) (me : Identity) (tag : ℕ) (c : Transcript) (v : LoginStanding) (s : Counters) : Type 0 where
+pub record LogsIn (units : ℕ) (me : TargetRecord) (tag : ℕ) (c : Transcript) (v : LoginStanding) (s : Counters) : Type 0 where
   pub is_login : IsLogin me.target_name.now tag c.logins
   pub none_begins : NoneBegins c.logins
   pub none_ends : NoneEnds (map of_login c.logins)
@@ -105,18 +105,18 @@ pub record LogsIn (units : ℕ) (me : Identity) (tag : ℕ) (c : Transcript) (v 
   pub waits : s ≡ begun (setting_of units me kind start)
 
 -- full feature phase, with this setting behind its login
-pub record Serves (units : ℕ) (me : Identity) (opening : Opening) (c : Transcript) (s : Counters) : Type 0 where
+pub record Serves (units : ℕ) (me : TargetRecord) (opening : Opening) (c : Transcript) (s : Counters) : Type 0 where
   pub setting : Setting
   pub behind : (ts : List Turn) → Lawful setting ts → IsLawful units me opening (record { logins = c.logins; turns = ts })
   pub stands : Stands setting c.turns s
   pub goes_on : GoesOn c.turns
 
-abbrev pub PhaseStands : ℕ → Identity → Opening → Transcript → Option LoginStanding → Counters → Type 0
+abbrev pub PhaseStands : ℕ → TargetRecord → Opening → Transcript → Option LoginStanding → Counters → Type 0
 PhaseStands units me opening c None s = Serves units me opening c s
 PhaseStands units me (Login tag) c (Some v) s = LogsIn units me tag c v s
 PhaseStands units me (FullFeature kind start) c (Some v) s = ⊥
 
-pub lawful_now : (units : ℕ) (me : Identity) (opening : Opening) (c : Transcript)
+pub lawful_now : (units : ℕ) (me : TargetRecord) (opening : Opening) (c : Transcript)
     (login : Option LoginStanding) (s : Counters) → PhaseStands units me opening c login s → IsLawful units me opening c
 lawful_now units me opening c None s k = k.behind c.turns k.stands.lawful
 lawful_now units me (Login tag) c (Some v) s k = (k.is_login, inl k.no_turns)
@@ -136,7 +136,7 @@ fresh_more (Some v) s came e p' k made = fresh_next (begins made.turn.outcome) (
 
 -- ---- one turn more
 
-pub record More (units : ℕ) (me : Identity) (opening : Opening) (c : Transcript) (came : Incoming) (e : Exchange)
+pub record More (units : ℕ) (me : TargetRecord) (opening : Opening) (c : Transcript) (came : Incoming) (e : Exchange)
     (p' : PhasesValue) : Type 0 where
   pub transcript : Transcript
   pub exchanges_are : exchanges transcript ≡ exchanges c ++ e ∷ []
@@ -145,7 +145,7 @@ pub record More (units : ℕ) (me : Identity) (opening : Opening) (c : Transcrip
   pub came_is : e.came ≡ came
 
 -- of a login
-module _ (units : ℕ) (me : Identity) (tag : ℕ) (c : Transcript) (v : LoginStanding) (s : Counters)
+module _ (units : ℕ) (me : TargetRecord) (tag : ℕ) (c : Transcript) (v : LoginStanding) (s : Counters)
     (k : LogsIn units me tag c v s) (came : Incoming) (l : LoginTurn) (came_is : l.came ≡ came)
     (made : IsLoginTurn v l) where
   abbrev logged : Transcript
@@ -207,7 +207,7 @@ module _ (units : ℕ) (me : Identity) (tag : ℕ) (c : Transcript) (v : LoginSt
   })
 
 -- of either phase
-pub one_more : (units : ℕ) (me : Identity) (opening : Opening) (c : Transcript) (came : Incoming) (e : Exchange)
+pub one_more : (units : ℕ) (me : TargetRecord) (opening : Opening) (c : Transcript) (came : Incoming) (e : Exchange)
     (login : Option LoginStanding) (s : Counters) (p' : PhasesValue) → PhaseStands units me opening c login s
     → ExchangeOf (record { login = login; counters = s }) came e p' → More units me opening c came e p'
 one_more units me opening c came e None s p' k made =
@@ -230,7 +230,7 @@ one_more units me (Login tag) c came e (Some v) s p' k made =
 one_more units me (FullFeature kind start) c came e (Some v) s p' k made = absurd k
 
 -- before anything came
-pub stands_opened : (units : ℕ) (me : Identity) (opening : Opening) (p : PhasesValue) → OpensWith units me opening p
+pub stands_opened : (units : ℕ) (me : TargetRecord) (opening : Opening) (p : PhasesValue) → OpensWith units me opening p
     → PhaseStands units me opening (record { logins = []; turns = [] }) p.login p.counters
 stands_opened units me (Login tag) p k = rw k.0 (record {
   is_login = record {

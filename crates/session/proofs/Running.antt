@@ -14,7 +14,7 @@ use Rattle.session_rules.specs.{Logout.closes as closes_session, Asking.Asking, 
 use Rattle.session_rules.specs.{Legal.bhs_of, Legal.end_after, Legal.IsSentFor, LoginPhase.LoginStanding, LoginPhase.login_end}
 use Rattle.session_rules.specs.LoginPhase.{LoginTurn, HasOutcome, IsLoginTurn, login_numbers, login_outs, out, refusal_of}
 use Rattle.session_rules.specs.Causes.{status_of}
-use Rattle.session_rules.specs.declared.{target.TargetAnswer.TheVariants.Gone, identity.Identity.Identity, opening.Opening.Opening}
+use Rattle.session_rules.specs.declared.{target.TargetAnswer.TheVariants.Gone, target_record.TargetRecord.TargetRecord, opening.Opening.Opening}
 use Rattle.session_rules.specs.declared.{login_outcome.LoginOutcome.LoginOutcome}
 use Rattle.session_rules.specs.declared.end.End.{End, TheVariants.EndOfInput, TheVariants.InputFailed, TheVariants.OutputFailed}
 use Rattle.session_rules.specs.declared.end.End.TheVariants.{Rejected, Gap, LoginRefused, Reinstated, LoggedOut}
@@ -199,7 +199,7 @@ failed_so up = record { rises = λ _. up; stays = λ other. absurd (other refl) 
 
 -- ---- what is known behind some turns, the last of which calls for this end, or none
 
-pub record Running {T : Type 0} (leads : T → Asking → T → Type 0) (units : ℕ) (me : Identity) (opening : Opening)
+pub record Running {T : Type 0} (leads : T → Asking → T → Type 0) (units : ℕ) (me : TargetRecord) (opening : Opening)
     (left left' held held' : Option (List ℕ)) (before now : ℕ) (o : OutboxValue) (x x' : T) (p : PhasesValue)
     (waiting : List ℕ) (reads : ℕ) (wanted : Option End) : Type 0 where
   pub transcript : Transcript
@@ -217,7 +217,7 @@ pub record Running {T : Type 0} (leads : T → Asking → T → Type 0) (units :
   pub led : Leads leads (asked es) x x'
   pub many : reads ≤ length spelled + length waiting
 
-pub starts : {T : Type 0} (leads : T → Asking → T → Type 0) (units : ℕ) (me : Identity) (opening : Opening)
+pub starts : {T : Type 0} (leads : T → Asking → T → Type 0) (units : ℕ) (me : TargetRecord) (opening : Opening)
     (left held : Option (List ℕ)) (n : ℕ) (o : OutboxValue) (x : T) (p : PhasesValue) (waiting : List ℕ)
     → PhaseStands units me opening (record { logins = []; turns = [] }) p.login p.counters
     → o ≡ record { waiting = []; failed = false } → waiting ≡ []
@@ -239,7 +239,7 @@ starts leads units me opening left held n o x p waiting stands o_is empty = rw (
   many = omega arith;
 })
 
-module _ {T : Type 0} {leads : T → Asking → T → Type 0} {units : ℕ} {me : Identity} {opening : Opening}
+module _ {T : Type 0} {leads : T → Asking → T → Type 0} {units : ℕ} {me : TargetRecord} {opening : Opening}
     {left left' held held' : Option (List ℕ)} {before now : ℕ} {o : OutboxValue} {x x' : T} {p : PhasesValue}
     {waiting : List ℕ} {reads : ℕ} {wanted : Option End}
     (r : Running leads units me opening left left' held held' before now o x x' p waiting reads wanted) where
@@ -300,7 +300,7 @@ module _ {T : Type 0} {leads : T → Asking → T → Type 0} {units : ℕ} {me 
       let b = broke held held' before now o.waiting r.least (bytes_of (outgoing r.es)) o.failed failed r.written in
       cut_off held' now first here same b.0 b.1
 
-module _ {T : Type 0} {leads : T → Asking → T → Type 0} {units : ℕ} {me : Identity} {opening : Opening}
+module _ {T : Type 0} {leads : T → Asking → T → Type 0} {units : ℕ} {me : TargetRecord} {opening : Opening}
     {left left' held held' : Option (List ℕ)} {before now : ℕ} {o : OutboxValue} {x x' : T} {p : PhasesValue}
     {waiting : List ℕ} {reads : ℕ}
     (r : Running leads units me opening left left' held held' before now o x x' p waiting reads None) where

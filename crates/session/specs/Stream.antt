@@ -3,7 +3,7 @@ use Rattle.std.specs.Prelude.{◌≡◌, ◌<◌}
 use Rattle.session_rules.specs.Words.{ℕ, Bool, [], false, true, List, Option, Some, None, IfSome, MatchOption, kind_in}
 use Rattle.session_rules.specs.Words.{SessionType}
 use Rattle.session_rules.specs.{Asking.Asking, Setting.setting_of, Phases.Exchange, Phases.of_login, Phases.of_turn}
-use Rattle.session_rules.specs.declared.{end.End.End, identity.Identity.Identity, start.Start.Start}
+use Rattle.session_rules.specs.declared.{end.End.End, target_record.TargetRecord.TargetRecord, start.Start.Start}
 use Rattle.session_rules.specs.declared.opening.Opening.{Opening, TheVariants.Login, TheVariants.FullFeature}
 use Rattle.session_rules.specs.Turn.{Incoming, Turn, bytes_of, IsLed}
 use Rattle.session_rules.specs.LoginPhase.{LoginTurn, LoginStanding, login_standing, login_after, IsLoginTurn, begins, IsStart}
@@ -18,7 +18,7 @@ pub record PhasesValue : Type 0 where
   pub counters : Counters
 
 -- a session that begins so
-abbrev pub OpensWith : ℕ → Identity → Opening → PhasesValue → Type 0
+abbrev pub OpensWith : ℕ → TargetRecord → Opening → PhasesValue → Type 0
 OpensWith units me (Login tag) p =
     (p.login ≡ Some (login_standing me.target_name.now tag []))
     × (kind : SessionType) × (start : Start) × (p.counters ≡ begun (setting_of units me kind start))

@@ -3,7 +3,7 @@ use Rattle.std.specs.Io.KnownBytes.{Appends, Consumes, IsAtEnd}
 use Rattle.std.specs.Prelude.{◌≡◌, ◌+◌, ◌<◌, ◌≤◌, ◌∷◌, ◌++◌}
 use Rattle.session_rules.specs.Words.{ℕ, List, [], length, take, Option}
 use Rattle.session_rules.specs.{Asking.Asking, Asking.over, Turn.bytes_of, Turn.Spells, Turn.Leads, Ends.EndsBy}
-use Rattle.session_rules.specs.declared.{identity.Identity.Identity, opening.Opening.Opening}
+use Rattle.session_rules.specs.declared.{target_record.TargetRecord.TargetRecord, opening.Opening.Opening}
 use Rattle.session_rules.specs.declared.end.End.{End, TheVariants.EndOfInput, TheVariants.InputFailed, TheVariants.OutputFailed}
 use Rattle.session_rules.specs.declared.end.End.TheVariants.{Rejected, Gap, LoginRefused, Reinstated, LoggedOut}
 use Rattle.session_rules.specs.Phases.{Transcript, Exchange, exchanges, incoming, asked, outgoing, IsLawful}
@@ -37,7 +37,7 @@ Written LoggedOut held held' es = Appends held held' (bytes_of (outgoing es))
 -- Up to its end a session has passed so: the bytes that were read spell the PDUs of a legal transcript, and a rest behind
 -- them; the bytes that were written spell the PDUs that it sends; what it asks leads the target from its state before to
 -- that after.
-pub record IsPassed {T : Type 0} (leads : T → Asking → T → Type 0) (units : ℕ) (me : Identity) (opening : Opening)
+pub record IsPassed {T : Type 0} (leads : T → Asking → T → Type 0) (units : ℕ) (me : TargetRecord) (opening : Opening)
     (left left' held held' : Option (List ℕ)) (target target' : T) (end : End) : Type 0 where
   pub transcript : Transcript
   pub spelled : List ℕ
@@ -50,7 +50,7 @@ pub record IsPassed {T : Type 0} (leads : T → Asking → T → Type 0) (units 
   pub led : Leads leads (asked (exchanges transcript)) target target'
 
 -- The same of a session that is over: the last that it asked was to tell its target so.
-pub record IsTranscribed {T : Type 0} (leads : T → Asking → T → Type 0) (units : ℕ) (me : Identity) (opening : Opening)
+pub record IsTranscribed {T : Type 0} (leads : T → Asking → T → Type 0) (units : ℕ) (me : TargetRecord) (opening : Opening)
     (left left' held held' : Option (List ℕ)) (target target' : T) (end : End) : Type 0 where
   pub at_end : T
   pub passed : IsPassed leads units me opening left left' held held' target at_end end
@@ -62,7 +62,7 @@ pub record IsFailureOf (cause : End) (before now : ℕ) (end : End) : Type 0 whe
   pub stays : (end ≡ cause → ⊥) → now ≡ before
 
 -- how it has passed up to its end, and whose failure that was
-pub record HasPassed {T : Type 0} (leads : T → Asking → T → Type 0) (units : ℕ) (me : Identity) (opening : Opening)
+pub record HasPassed {T : Type 0} (leads : T → Asking → T → Type 0) (units : ℕ) (me : TargetRecord) (opening : Opening)
     (left left' held held' : Option (List ℕ)) (read read' written written' : ℕ) (target target' : T)
     (end : End) : Type 0 where
   pub passed : IsPassed leads units me opening left left' held held' target target' end

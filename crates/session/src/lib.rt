@@ -25,7 +25,7 @@ pub use examples::{
     a_read_has_one_legal_answer, a_write_has_one_legal_r2t, nothing_comes_behind_a_logout,
 };
 pub use session_rules::{
-    BeginAnswer, End, Identity, Lengths, Opening, ResetAnswer, Start, Target, TargetAnswer,
+    BeginAnswer, End, Lengths, Opening, ResetAnswer, Start, Target, TargetAnswer, TargetRecord,
 };
 pub use session_stream::{Failed, Sink, Source, Unread};
 pub use stream::serve_stream;

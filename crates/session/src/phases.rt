@@ -11,7 +11,7 @@ use login::SessionType;
 use scsi_types::NoMemory;
 use session_full_feature::{Session, fault_turn, feature_turn};
 use session_login::{LoginPhase, login_fault_turn, login_turn};
-use session_rules::{End, Identity, LONGEST_TEXT, Lengths, Opening, Start, Target};
+use session_rules::{End, LONGEST_TEXT, Lengths, Opening, Start, Target, TargetRecord};
 use session_stream::{Outbox, Sink};
 use std::alloc::Global;
 use std::marker::Model;
@@ -32,13 +32,13 @@ impl Model for Phases {
 }
 
 impl Phases {
-    /// A session that begins so, with a target of this identity that has so many units. Takes all memory that it needs, but
+    /// A session that begins so, with a target of this record that has so many units. Takes all memory that it needs, but
     /// that of the data of writes.
     pub fn new(
         alloc: Global,
         opening: Opening,
         units: u16,
-        me: &Identity<'_>,
+        me: &TargetRecord<'_>,
     ) -> Result<Phases, NoMemory>
         ensures { IfOk result (λ p. OpensWith units me.now opening p) }
     {

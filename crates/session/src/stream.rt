@@ -5,7 +5,7 @@ ghost use Rattle.session_rules.specs.declared.end.End.TheVariants.{InputFailed, 
 ghost use Rattle.session_stream.specs.Source.{Counted};
 ghost use Rattle.session_stream.specs.Outbox.{IsClosedAs};
 ghost use Rattle.session.specs.Inbox.{Filled};
-ghost use Rattle.session_rules.specs.declared.identity.Identity.{Identity};
+ghost use Rattle.session_rules.specs.declared.target_record.TargetRecord.{TargetRecord};
 ghost use Rattle.session_rules.specs.declared.opening.Opening.{Opening};
 ghost use Rattle.session.specs.Stream.{OpensWith, IsFresh};
 ghost use Rattle.session.specs.Transcript.{HasPassed, IsTranscribed, IsFailureOf};
@@ -16,7 +16,7 @@ use crate::inbox::{INBOX_CAPACITY, Inbox};
 use crate::phases::Phases;
 use iscsi_pdu::LONGEST_PDU;
 use scsi_types::NoMemory;
-use session_rules::{End, Identity, LONGEST_TEXT, Opening, Target, reject_end, reject_reason};
+use session_rules::{End, LONGEST_TEXT, Opening, Target, TargetRecord, reject_end, reject_reason};
 use session_stream::{Failed, Outbox, Sink, Source, Unread};
 use std::alloc::Global;
 
@@ -92,7 +92,7 @@ pub fn serve_stream<S: Source, K: Sink, T: Target>(
     sink: &mut K,
     target: &mut T,
     opening: Opening,
-    me: &Identity<'_>,
+    me: &TargetRecord<'_>,
 ) -> Result<End, NoMemory>
     ensures transcribed { IfOk result (IsTranscribed T.leads (T.unit_count target.old) me.now opening
         (S.left source.old) (S.left source.new) (K.held sink.old) (K.held sink.new) target.old target.new) }
@@ -131,7 +131,7 @@ fn serve_turns<S: Source, K: Sink, T: Target>(
     requires unwritten { outbox.old ≡ record { waiting = []; failed = false } }
     requires fresh { IsFresh phases.old }
     requires room { LONGEST_TEXT ≤ vec_capacity room.old }
-    ensures { (units : ℕ) (me : Identity) (opening : Opening) → OpensWith units me opening phases.old
+    ensures { (units : ℕ) (me : TargetRecord) (opening : Opening) → OpensWith units me opening phases.old
         → HasPassed T.leads units me opening (S.left source.old) (S.left source.new) (K.held sink.old) (K.held sink.new)
         (S.failures source.old) (S.failures source.new) (K.failures sink.old) (K.failures sink.new)
         target.old target.new result }

@@ -31,8 +31,8 @@ use iscsi_pdu::{
 use login::{SessionType, TextAnswer, answer_within, target_text};
 use scsi_types::{Asked, Lun, NoMemory, Status, decode, need};
 use session_rules::{
-    COMMAND_NOT_SUPPORTED, End, Identity, LONGEST_TEXT, Lengths, ManagementOutcome, PROTOCOL_ERROR,
-    Start, TargetAnswer, Verdict, WINDOW, Window, next_exp_cmd_sn, next_transfer_tag,
+    COMMAND_NOT_SUPPORTED, End, LONGEST_TEXT, Lengths, ManagementOutcome, PROTOCOL_ERROR, Start,
+    TargetAnswer, TargetRecord, Verdict, WINDOW, Window, next_exp_cmd_sn, next_transfer_tag,
     reject_reason, target_numbers,
 };
 use session_stream::{DataIns, Pdus, ResponsePdu, count};
@@ -79,14 +79,14 @@ impl Model for Session {
 }
 
 impl Session {
-    /// A session of this kind that begins so, with a target of this identity that has so many units. Takes the memory for the
+    /// A session of this kind that begins so, with a target of this record that has so many units. Takes the memory for the
     /// commands that wait for their data; later only the data itself takes memory.
     pub fn new(
         alloc: Global,
         kind: SessionType,
         start: Start,
         units: u16,
-        me: &Identity<'_>,
+        me: &TargetRecord<'_>,
     ) -> Result<Session, NoMemory>
         ensures { IfOk result (λ s. s ≡ begun (setting_of units me.now kind start)) }
     {

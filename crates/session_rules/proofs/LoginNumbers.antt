@@ -3,7 +3,7 @@ use Rattle.std.proofs.Common.{◌≡◌, ◌⊎◌, ◌+◌, ◌∷◌, ◌++◌
 use Rattle.std.proofs.lemmas.{List.Elements.filter_map-append, List.Folds.flat_map-map, Grind.flat_map-append}
 use Rattle.std.proofs.Math.Nat.{mod-add-mod}
 use Rattle.session_rules.specs.Words.{ℕ, zero, suc, List, [], Option, Some, length, map, slice_get, flat_map, Initiator, LoginRequest}
-use Rattle.session_rules.specs.Words.{Numbers, Progress, Identity, LoginOutcome, Login}
+use Rattle.session_rules.specs.Words.{Numbers, Progress, TargetRecord, LoginOutcome, Login}
 use Rattle.session_rules.specs.{Asking.Asking, Window.wrap, Legal.AtEachOf, Legal.status_number, Legal.status_numbers}
 use Rattle.session_rules.specs.declared.login_outcome.LoginOutcome.TheVariants.{GoesOn, Begun, Refused, Rejected}
 use Rattle.session_rules.specs.Turn.{Incoming, pdu, Out, Turn, sent}
@@ -71,7 +71,7 @@ all_sent c =
     ∙ ap₂ (λ (o p : List Out). status_numbers o ++ status_numbers p)
     (flat_map-map (λ e. e.sent) of_login c.logins) (flat_map-map (λ e. e.sent) of_turn c.turns)
 
-pub counts_on : (units : ℕ) (me : Identity) (tag : ℕ) (c : Transcript) → IsLawful units me (Login tag) c → (k n : ℕ)
+pub counts_on : (units : ℕ) (me : TargetRecord) (tag : ℕ) (c : Transcript) → IsLawful units me (Login tag) c → (k n : ℕ)
     → slice_get (status_numbers (outgoing (exchanges c))) k ≡ Some n → n ≡ wrap (1 + k)
 counts_on units me tag c lawful k n e =
     login_count me.target_name.now tag [] c.logins (status_numbers (sent c.turns)) lawful.0.turns behind k n

@@ -1,13 +1,13 @@
 -- Of short logins that differ, one is legal.
 use Rattle.std.proofs.Common.{◌≡◌, ℕ, true, List, [], ◌∷◌, ◌++◌, Option, None, refl, ap, ◌∙◌, inl, inr}
-use Rattle.session_rules.specs.Words.{InvalidDuringLogin, Identity, LoginOutcome, Login}
+use Rattle.session_rules.specs.Words.{InvalidDuringLogin, TargetRecord, LoginOutcome, Login}
 use Rattle.session_rules.specs.{declared.login_outcome.LoginOutcome.TheVariants.Refused, Asking.Asking, Phases.IsLawful}
 use Rattle.session_rules.specs.Turn.{Out, Turn}
 use Rattle.session_rules.specs.LoginPhase.{LoginTurn, login_standing, login_numbers, login_outs, begins}
 use Rattle.session_rules.specs.Examples.{ping_pdu, ping_in_login, login_of, the_refusal, turned_away_in_login}
 use Rattle.session_rules.proofs.AtEach.{at_each_of_more, at_each_of_none}
 
-pub refusal_lawful : (units : ℕ) (me : Identity) (tag : ℕ)
+pub refusal_lawful : (units : ℕ) (me : TargetRecord) (tag : ℕ)
     → IsLawful units me (Login tag) (login_of (turned_away_in_login ∷ []))
 refusal_lawful units me tag = (
   record {
@@ -19,7 +19,7 @@ refusal_lawful units me tag = (
   inl refl,
 )
 
-pub refusal_is : (units : ℕ) (me : Identity) (tag : ℕ) (call : Option Asking) (outcome : LoginOutcome) (outs : List Out)
+pub refusal_is : (units : ℕ) (me : TargetRecord) (tag : ℕ) (call : Option Asking) (outcome : LoginOutcome) (outs : List Out)
     → IsLawful units me (Login tag) (login_of (ping_in_login call outcome outs ∷ []))
     → (call ≡ None) × (outcome ≡ Refused InvalidDuringLogin) × (outs ≡ the_refusal)
 refusal_is units me tag call outcome outs l =
@@ -30,7 +30,7 @@ refusal_is units me tag call outcome outs l =
       made.answered ∙ ap (λ (o : LoginOutcome). login_outs (login_numbers v ping_pdu) v.progress ping_pdu o) made.comes_to.1,
     )
 
-pub refusal_last : (units : ℕ) (me : Identity) (tag : ℕ) (l : LoginTurn)
+pub refusal_last : (units : ℕ) (me : TargetRecord) (tag : ℕ) (l : LoginTurn)
     → IsLawful units me (Login tag) (login_of (turned_away_in_login ∷ l ∷ [])) → ⊥
 refusal_last units me tag l is =
     let e = (is.0.ends (turned_away_in_login ∷ []) l [] refl).0 in cc
@@ -43,7 +43,7 @@ not_begun [] last e b =
 not_begun (x ∷ []) last e b = absurd (cc)
 not_begun (x ∷ (y ∷ front)) last e b = absurd (cc)
 
-pub refusal_first : (units : ℕ) (me : Identity) (tag : ℕ) (t : Turn)
+pub refusal_first : (units : ℕ) (me : TargetRecord) (tag : ℕ) (t : Turn)
     → IsLawful units me (Login tag) (record { logins = turned_away_in_login ∷ []; turns = t ∷ [] }) → ⊥
 refusal_first units me tag t is = elim is.1 [
   | inl none ↦ absurd (cc)

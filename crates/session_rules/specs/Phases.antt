@@ -1,7 +1,7 @@
 -- A whole session (RFC 7143, 4.2 and 6.3): its login phase, and full feature phase behind it.
 use Rattle.std.specs.Prelude.{◌≡◌, ◌⊎◌, ◌∷◌, ◌++◌}
 use Rattle.session_rules.specs.Words.{ℕ, true, false, List, [], map, Option, None, filter_map, flat_map, AllByRecursion}
-use Rattle.session_rules.specs.Words.{kind_in, SessionType, End, Identity, Opening, Login, FullFeature, Start}
+use Rattle.session_rules.specs.Words.{kind_in, SessionType, End, TargetRecord, Opening, Login, FullFeature, Start}
 use Rattle.session_rules.specs.{Asking.Asking, Setting.setting_of, Turn.Incoming, Turn.Out, Turn.Turn}
 use Rattle.session_rules.specs.Legal.{AtEachOf, bhs_of, end_after, Lawful}
 use Rattle.session_rules.specs.LoginPhase.{LoginTurn, login_standing, IsLoginTurn, login_end, begins, IsStart}
@@ -71,13 +71,13 @@ pub record IsBehindLogin (target : List ℕ) (tag : ℕ) (ls : List LoginTurn) (
 -- ---- the whole
 
 -- Behind a login no turn came; or the login has begun the session, and the turns are lawful in the setting that it came to.
-abbrev pub IsLawfulBehind : ℕ → Identity → ℕ → Transcript → Type 0
+abbrev pub IsLawfulBehind : ℕ → TargetRecord → ℕ → Transcript → Type 0
 IsLawfulBehind units me tag c =
     (c.turns ≡ [])
     ⊎ ((kind : SessionType) × (start : Start) × IsBehindLogin me.target_name.now tag c.logins kind start
     × Lawful (setting_of units me kind start) c.turns)
 
--- The transcript of a session that begins so, with a target of this identity that has so many units.
-abbrev pub IsLawful : ℕ → Identity → Opening → Transcript → Type 0
+-- The transcript of a session that begins so, with a target of this record that has so many units.
+abbrev pub IsLawful : ℕ → TargetRecord → Opening → Transcript → Type 0
 IsLawful units me (Login tag) c = IsLogin me.target_name.now tag c.logins × IsLawfulBehind units me tag c
 IsLawful units me (FullFeature kind start) c = (c.logins ≡ []) × Lawful (setting_of units me kind start) c.turns

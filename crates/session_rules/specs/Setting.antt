@@ -1,5 +1,5 @@
 -- What stays the same over a session.
-use Rattle.session_rules.specs.Words.{ℕ, Bool, true, false, List, SessionType, Normal, Identity, Start}
+use Rattle.session_rules.specs.Words.{ℕ, Bool, true, false, List, SessionType, Normal, TargetRecord, Start}
 use Rattle.login.specs.{Targets.target_text, declared.status.SessionType.TheVariants.Discovery}
 
 -- how many units the target has, from unit 0 on; the kind of the session; the target's name, and what it tells of itself;
@@ -11,8 +11,8 @@ pub record Setting : Type 0 where
   pub told : List ℕ
   pub start : Start
 
--- the setting of a session of this kind that begins so, with a target of this identity that has so many units
-abbrev pub setting_of : ℕ → Identity → SessionType → Start → Setting
+-- the setting of a session of this kind that begins so, with a target of this record that has so many units
+abbrev pub setting_of : ℕ → TargetRecord → SessionType → Start → Setting
 setting_of units me kind start = record {
   units = units;
   kind = kind;

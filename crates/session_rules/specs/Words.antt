@@ -25,7 +25,7 @@ pub use Rattle.login.specs.declared.status.{SessionType.SessionType, SessionType
 pub use Rattle.login.specs.declared.status.LoginStatus.TheVariants.{InvalidDuringLogin}
 pub use Rattle.scsi_types.specs.{Cdb.need_of, Cdb.Means, Lun.NamesUnit, Nexus.Port, ReplyValue.good, Status.status_code}
 pub use Rattle.scsi_types.specs.declared.{command.Command.Command, command.CdbFault.CdbFault, sense.Sense.Sense}
-pub use Rattle.session_rules.specs.declared.{end.End.End, identity.Identity.Identity, lengths.Lengths.Lengths, opening.Opening.Opening}
+pub use Rattle.session_rules.specs.declared.{end.End.End, target_record.TargetRecord.TargetRecord, lengths.Lengths.Lengths, opening.Opening.Opening}
 pub use Rattle.session_rules.specs.declared.{start.Start.Start, verdict.Verdict.Verdict, login_outcome.LoginOutcome.LoginOutcome}
 pub use Rattle.session_rules.specs.declared.target.{TargetAnswer.TargetAnswer, BeginAnswer.BeginAnswer, ResetAnswer.ResetAnswer}
 pub use Rattle.session_rules.specs.declared.task_function.{ManagementOutcome.ManagementOutcome, TaskFunction.TaskFunction}

@@ -2,7 +2,7 @@
 ghost use Rattle.std.specs.Prelude.{◌≡◌, ◌+◌, ◌<◌, ◌≤◌, ◌∷◌, ◌++◌};
 ghost use Rattle.session_rules.specs.Words.{ℕ, List, [], IsTrue, Some, length, min, slice_get, take, own_data_segment};
 ghost use Rattle.session_rules.specs.Words.{max_data_segment_length, three_at, IsPdu, Stands, Header, CommandHeader, TargetAnswer};
-ghost use Rattle.session_rules.specs.Words.{Accepted, Full, AllByRecursion, Identity, Opening};
+ghost use Rattle.session_rules.specs.Words.{Accepted, Full, AllByRecursion, TargetRecord, Opening};
 ghost use Rattle.iscsi_pdu.specs.declared.fault.PduFault.TheVariants.{TooLong};
 ghost use Rattle.session_rules.specs.Setting.{Setting};
 ghost use Rattle.session_rules.specs.Phases.{Transcript, exchanges, outgoing, IsLawful};
@@ -26,7 +26,7 @@ pub fn status_numbers_are_consecutive()
 /// Over a whole session that begins with a login, the first PDU that uses up a StatSN has StatSN 1, and each has the next one
 /// behind that before it: a login and full feature phase count as one (RFC 7143, 4.2.2.2).
 pub fn status_numbers_count_on_behind_a_login()
-    ensures { (units : ℕ) (me : Identity) (tag : ℕ) (c : Transcript) → IsLawful units me (Opening.Login tag) c → (k n : ℕ)
+    ensures { (units : ℕ) (me : TargetRecord) (tag : ℕ) (c : Transcript) → IsLawful units me (Opening.Login tag) c → (k n : ℕ)
         → slice_get (status_numbers (outgoing (exchanges c))) k ≡ Some n → n ≡ wrap (1 + k) }
 {}
 

@@ -12,13 +12,13 @@
 
 mod end;
 mod examples;
-mod identity;
 mod laws;
 mod lengths;
 mod login_outcome;
 mod opening;
 mod start;
 mod target;
+mod target_record;
 mod task_function;
 mod text;
 mod verdict;
@@ -26,7 +26,6 @@ mod window;
 
 pub use end::{End, refusal_end, reject_end};
 pub use examples::a_nop_out_in_a_login_has_one_legal_answer;
-pub use identity::Identity;
 pub use laws::{
     a_pdu_is_ignored_just_outside_the_window_that_was_told, a_read_gets_the_data_of_its_answer,
     a_write_that_was_asked_for_its_data_is_called, no_command_is_answered_twice,
@@ -38,6 +37,7 @@ pub use login_outcome::LoginOutcome;
 pub use opening::Opening;
 pub use start::Start;
 pub use target::{BeginAnswer, ResetAnswer, Target, TargetAnswer};
+pub use target_record::TargetRecord;
 pub use task_function::{ManagementOutcome, TaskFunction};
 pub use text::LONGEST_TEXT;
 pub use verdict::{

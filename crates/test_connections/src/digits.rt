@@ -1,5 +1,5 @@
 //! Bytes as digits.
-use crate::rows::RowError;
+use crate::row_error::RowError;
 
 // Appends the bytes of these digits in hexadecimal, two a byte, with blanks and new lines between.
 pub(crate) fn put_digits(bytes: &mut Vec<u8>, digits: &str) -> Result<(), RowError> {

@@ -1,6 +1,6 @@
 //! Rows that are alike but for some parts.
 use crate::digits::number_of;
-use crate::rows::RowError;
+use crate::row_error::RowError;
 use std::alloc::Global;
 
 /// The text of a form, filled with a line of parts between semicolons: in place of `[0]` stands the first of them, in place of `[1]` the

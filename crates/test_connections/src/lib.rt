@@ -8,12 +8,12 @@ mod forms;
 mod host;
 mod lines;
 mod named;
-mod rows;
+mod row_error;
 mod texts;
 
 pub use calls::{Calls, FakeReader, FakeWriter, ONE_BYTE, WHOLE};
 pub use forms::filled;
 pub use host::{Host, is_text, put_number};
 pub use lines::{Texts, bytes_of, lines_of, pdu_of};
-pub use rows::RowError;
+pub use row_error::RowError;
 pub use texts::{HOST_A, LIBISCSI_AGREED, LIBISCSI_OFFERS, THE_TARGET, WELCOME, host_texts};

@@ -1,7 +1,7 @@
 //! PDUs and bytes as lines of text. What a line spells costs a proof nothing, since it is read when the test runs.
 use crate::digits::{change, number_of, put_digits};
 use crate::named::header_named;
-use crate::rows::{RowError, put_padding, put_pattern};
+use crate::row_error::RowError;
 use std::alloc::{AllocError, Global};
 
 /// Texts that lines name, each by its name in capitals.
@@ -224,6 +224,24 @@ fn put_line<'a>(lines: &mut Vec<&'a str>, line: Option<&'a str>) -> Result<(), A
         if !line.is_empty() && !line.starts_with('#') {
             lines.extend_from_slice(&[line])?;
         }
+    }
+    Ok(())
+}
+
+// Appends zeros up to a multiple of four.
+fn put_padding(bytes: &mut Vec<u8>) -> Result<(), AllocError> {
+    for _ in 0..3 {
+        if bytes.len() % 4 != 0 {
+            bytes.push(0)?;
+        }
+    }
+    Ok(())
+}
+
+// Appends so many bytes of the pattern, from this place on.
+fn put_pattern(bytes: &mut Vec<u8>, place: usize, len: usize) -> Result<(), AllocError> {
+    for i in 0..len {
+        bytes.push((place.wrapping_add(i) % 251) as u8)?;
     }
     Ok(())
 }

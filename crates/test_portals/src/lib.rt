@@ -31,6 +31,8 @@ mod late;
 #[cfg(test)]
 mod lives;
 #[cfg(test)]
+mod logged_ends;
+#[cfg(test)]
 mod logins;
 #[cfg(test)]
 mod medium;
@@ -52,8 +54,6 @@ mod silence;
 mod stage;
 #[cfg(test)]
 mod streams;
-#[cfg(test)]
-mod told;
 #[cfg(test)]
 mod units;
 #[cfg(test)]

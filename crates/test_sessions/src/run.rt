@@ -2,7 +2,7 @@
 use crate::ends::must;
 use crate::fixed::{Fixed, Heard};
 use crate::row::Row;
-use session::{End, Identity, Watched, serve_stream};
+use session::{End, TargetRecord, Watched, serve_stream};
 use std::alloc::Global;
 use std::fmt::Debug;
 use std::io::ErrorKind;
@@ -97,7 +97,7 @@ fn serve_by(
 ) -> (End, FakeWriter) {
     let second = [portal(3264), portal(3265), portal(3266)];
     let second = second.get(..row.portals);
-    let me = Identity {
+    let me = TargetRecord {
         target_name: b"iqn.2000-01.test:array",
         first: &[portal(3260)],
         second: second.expect(rt, "three portals at most"),

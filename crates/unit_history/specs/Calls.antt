@@ -96,8 +96,8 @@ pub record HasStayed {B R O : Type 0} (d : Devices B R O) (s : UnitState) (list 
   pub stays : StaysBehind s history list why
   pub kept : IsBeside (IsLeft d s) history (λ old new. HaveMoved d old new (Err why))
 
--- Two sessions have met: both passes have then seen one legal history, which begins with all that either had seen.
-pub record HaveMet (claims : Bool) (s : UnitState) (one two first second : Known Entry) : Type 0 where
+-- Two sessions have merged what they had seen: both passes have then seen one legal history, which begins with either's.
+pub record HaveMerged (claims : Bool) (s : UnitState) (one two first second : Known Entry) : Type 0 where
   pub same : first.seen ≡ second.seen
   pub one_begins : IsPrefix one.seen first.seen
   pub two_begins : IsPrefix two.seen first.seen

@@ -2,7 +2,7 @@
 ghost use Rattle.std.specs.Prelude.{◌≡◌, ◌≤◌, ◌&&◌, [], length, IfOk, IfErr, IfSome, MatchBool, All, List};
 ghost use Rattle.registrants.specs.Nexus.{through};
 ghost use Rattle.unit_history.specs.Calls.{HasAttached, HasNoRoom, HasServed, HasRefused, HasReset, WasGone, HasRetired};
-ghost use Rattle.unit_history.specs.Calls.{HasFlushed, HasMoved, HasStayed, HasWorked, HaveMet, IsRegistry};
+ghost use Rattle.unit_history.specs.Calls.{HasFlushed, HasMoved, HasStayed, HasWorked, HaveMerged, IsRegistry};
 ghost use Rattle.unit_entries.specs.Devices.{devices};
 ghost use Rattle.unit_history.specs.Naming.{IsNamedAt};
 
@@ -167,16 +167,16 @@ impl<B: Blocks, F: Blocks, O: Opener<B>, N: Namings<Opened>, const U: usize> Sha
     }
 
     /// Both sessions have then seen what either had: one legal history. It waits for nobody.
-    pub fn meet(
+    pub fn merge_seen(
         &self,
         one: Pass<B, F, O, N>,
         two: Pass<B, F, O, N>,
     ) -> (Pass<B, F, O, N>, Pass<B, F, O, N>)
         requires { (one.place ≡ U) × (two.place ≡ U) }
         ensures places { (result.0.place ≡ U) × (result.1.place ≡ U) }
-        ensures met { HaveMet (O.claims && B.claims) (N.opening U) one.pass two.pass result.0.pass result.1.pass }
+        ensures merged { HaveMerged (O.claims && B.claims) (N.opening U) one.pass two.pass result.0.pass result.1.pass }
     {
-        self.unit.meet(one, two)
+        self.unit.merge_seen(one, two)
     }
 
     /// Another value of the unit's registry, which a legal history left. None: a command has the unit for long, or there was no

@@ -15,5 +15,5 @@ mod unit;
 mod visit;
 
 pub use machine::{Machine, Refused};
-pub use pass::{LegalHistory, Pass, PassAt, meet};
+pub use pass::{LegalHistory, Pass, PassAt, merge_seen};
 pub use unit::{LockedUnit, NewLocked};

@@ -241,7 +241,7 @@ impl<E, S, P: Published<E, S>, N: Namings<S>> Pass<E, S, P, N> {
 
 /// Each of two sessions has then seen what either had: one legal history. It waits for nobody.
 #[tactic(auto, using(crate::proofs::Seen::counted_prefix))]
-pub fn meet<E, S, P: Published<E, S>, N: Namings<S>, const U: usize>(
+pub fn merge_seen<E, S, P: Published<E, S>, N: Namings<S>, const U: usize>(
     one: PassAt<E, S, P, N, U>,
     two: PassAt<E, S, P, N, U>,
 ) -> (PassAt<E, S, P, N, U>, PassAt<E, S, P, N, U>)

@@ -5,7 +5,7 @@ ghost use Rattle.unit_lock.specs.Calls.{IsAdded, IsBeside, IsBetween, IsEnded, I
 
 use crate::locked::Locked;
 use crate::machine::{Machine, Refused};
-use crate::pass::{LegalHistory, Pass, meet};
+use crate::pass::{LegalHistory, Pass, merge_seen};
 use crate::records::{Posted, Records};
 use crossbeam_utils::{Backoff, CachePadded};
 use status::{Board, MOST_SEATS, NewBoard, Published, Seat};
@@ -198,7 +198,7 @@ impl<E, S, X: Machine<E, S>, N: Namings<S>, const U: usize> LockedUnit<E, S, X, 
     }
 
     /// Both sessions have then seen what either had: one legal history. It waits for nobody.
-    pub fn meet(
+    pub fn merge_seen(
         &self,
         one: Pass<E, S, X, N>,
         two: Pass<E, S, X, N>,
@@ -212,7 +212,7 @@ impl<E, S, X: Machine<E, S>, N: Namings<S>, const U: usize> LockedUnit<E, S, X, 
         ensures sessions { (result.0.pass.session ≡ one.pass.session) × (result.1.pass.session ≡ two.pass.session) }
         ensures serials { (result.0.pass.serial ≡ one.pass.serial) × (result.1.pass.serial ≡ two.pass.serial) }
     {
-        let (one, two) = meet(one.at::<U>(), two.at::<U>());
+        let (one, two) = merge_seen(one.at::<U>(), two.at::<U>());
         (Pass::of::<U>(one), Pass::of::<U>(two))
     }
 

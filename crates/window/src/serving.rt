@@ -21,7 +21,7 @@ const CONNECTIONS: usize = 16;
 const THREADS: u64 = 64;
 
 /// So many milliseconds may a connection last, from its beginning to the last byte of its answer.
-const PATIENCE: u64 = 5000;
+const LIFETIME: u64 = 5000;
 
 /// So many milliseconds, at most, is waited for a peer that goes on sending behind its answer.
 const LINGERING: u64 = 500;
@@ -149,7 +149,7 @@ fn converse<R: Clock, S: Collector>(
 ) -> io::Result<()> {
     for _ in 0..u64::MAX {
         advance(connection, alloc, collector);
-        if connection.is_done() || !transfer(connection, stream, left(rt, began, PATIENCE)?)? {
+        if connection.is_done() || !transfer(connection, stream, left(rt, began, LIFETIME)?)? {
             break;
         }
     }

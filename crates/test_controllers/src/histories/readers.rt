@@ -1,5 +1,5 @@
 //! One unit whose board has as many readers as it has seats for: two sessions write in two threads while two others read by all
-//! seats, and the sessions meet when all threads have ended.
+//! seats, and the sessions merge what they have seen when all threads have ended.
 ghost use Rattle.unit_history.specs.Naming.{IsNamedAt};
 
 use crate::any_array::want;
@@ -29,8 +29,8 @@ trait Shared<S, T> {
     /// How many entries a session has seen, or 0.
     fn seen(&self, session: &S) -> u64;
 
-    /// Two sessions meet: whether they could.
-    fn meet(&self, one: &mut S, two: &mut S) -> bool;
+    /// Both sessions have then seen what either had: whether they could.
+    fn merge_seen(&self, one: &mut S, two: &mut S) -> bool;
 }
 
 /// Such a unit, and what its calls want.
@@ -97,14 +97,14 @@ impl<W: Wait + Drop, B: Blocks, F: Blocks, O: Opener<B>, N: Namings<Opened>> Sha
         }
     }
 
-    fn meet(&self, one: &mut Session<B, F, O, N>, two: &mut Session<B, F, O, N>) -> bool {
+    fn merge_seen(&self, one: &mut Session<B, F, O, N>, two: &mut Session<B, F, O, N>) -> bool {
         let (Some(first), Some(second)) = (one.take(), two.take()) else {
             return false;
         };
         if first.place() != 0 || second.place() != 0 {
             return false;
         }
-        let (first, second) = self.unit.meet(first, second);
+        let (first, second) = self.unit.merge_seen(first, second);
         one.pass = Some(first);
         two.pass = Some(second);
         true
@@ -181,11 +181,11 @@ fn are_right<W: Threads + Sync, S: Send, T: Send, A: Shared<S, T> + Sync>(
     writers.0 && writers.1 && readers.0 && readers.1
 }
 
-/// Whether both have seen all once they have met: one of them had before.
-fn have_met<S, T, A: Shared<S, T>>(unit: &A, one: &mut S, two: &mut S, entries: u64) -> bool {
+/// Whether both have seen all once they have merged what they had seen: one of them had before.
+fn have_merged<S, T, A: Shared<S, T>>(unit: &A, one: &mut S, two: &mut S, entries: u64) -> bool {
     let longer = unit.seen(one).max(unit.seen(two));
     longer == entries
-        && unit.meet(one, two)
+        && unit.merge_seen(one, two)
         && unit.seen(one) == entries
         && unit.seen(two) == entries
         && unit.serves(one)
@@ -208,7 +208,7 @@ fn happens<W: Threads + Sync, S: Send + Drop, T: Send, A: Shared<S, T> + Sync>(
     )?;
     want(all_read(unit, seats, entries), "the last row at each seat")?;
     want(
-        have_met(unit, &mut one, &mut two, entries),
+        have_merged(unit, &mut one, &mut two, entries),
         "all entries are seen by both",
     )
 }
@@ -235,7 +235,7 @@ fn share<
 }
 
 #[test]
-fn two_sessions_meet_beside_as_many_readers_as_there_may_be(rt: HostRuntime) -> Result<(), Fail> {
+fn two_sessions_merge_beside_as_many_readers_as_there_may_be(rt: HostRuntime) -> Result<(), Fail> {
     let alloc = rt.alloc();
     let opener: Opens = FusedOpener::new(KeepOpener, u64::MAX);
     let new = new_unit(alloc, MemBlocks::new(alloc, 16)?, opener, 0, 1)?;

@@ -5,7 +5,7 @@ use crate::row::Row;
 use crate::run::{Table, portal};
 use block_file::{Blocks, DeviceFailed, FusedBlocks, MemBlocks};
 use once_target::once::once;
-use session::{End, Identity, Watched};
+use session::{End, TargetRecord, Watched};
 use std::alloc::Global;
 use std::process::Abort;
 use std::test::*;
@@ -79,7 +79,7 @@ fn serve_to(
     let blocks = MemBlocks::new(alloc, count).expect(rt, "memory");
     let fused = FusedBlocks::inside(blocks, row.fuse.calls, row.fuse.lands);
     let mut source = Watched::new(source);
-    let me = Identity {
+    let me = TargetRecord {
         target_name: b"iqn.2000-01.test:array",
         first: &[portal(3260)],
         second: &[portal(3264)],

@@ -1,9 +1,9 @@
-//! What initiators are told of a target.
+//! What initiators are told of a target (RFC 7143, appendix C).
 use std::net::SocketAddrV4;
 
-/// Who the target of a session is.
+/// The name of a session's target, and where it listens.
 #[derive(Clone, Copy)]
-pub struct Identity<'a> {
+pub struct TargetRecord<'a> {
     /// The target's name (RFC 7143, 4.2.7).
     pub target_name: &'a [u8],
     /// The portals of the first controller, in order.

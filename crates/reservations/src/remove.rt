@@ -1,4 +1,4 @@
-//! CLEAR, PREEMPT, and PREEMPT AND ABORT (SPC-4, 5.13.11.2 to 5.13.11.5).
+//! How registrations are removed: CLEAR, PREEMPT, and PREEMPT AND ABORT (SPC-4, 5.13.11.2 to 5.13.11.5).
 ghost use Rattle.std.specs.Prelude.{◌≡◌, vec_capacity};
 ghost use Rattle.registrants.specs.Kind.{type_of};
 ghost use Rattle.reservations.specs.Seen.{Does};

@@ -1,4 +1,4 @@
-//! What the program tells of itself.
+//! The version of the program, and the text of its help.
 
 /// The version of the program, as the file VERSION at the top has it.
 pub const VERSION: &str = "1.0.0";
