@@ -10,11 +10,11 @@ use Rattle.session_rules.specs.Phases.{asked, exchanges}
 use Rattle.session.specs.Transcript.{IsTranscribed}
 use Rattle.unit_control.specs.Entry.{Entry}
 use Rattle.unit_control.specs.State.{UnitState}
-use Rattle.portal.specs.Late.{Late}
-use Rattle.portal.specs.Sessions.{Sayings}
-use Rattle.portal.specs.Units.{Claims}
-use Rattle.portal.specs.Entries.{AreAnswered}
-use Rattle.portal.specs.Target.{TargetValue, LeadsOn, unbegun}
+use Rattle.session_units.specs.Late.{Late}
+use Rattle.live_sessions.specs.Sessions.{Sayings}
+use Rattle.session_units.specs.Units.{Claims}
+use Rattle.session_units.specs.Entries.{AreAnswered}
+use Rattle.live_sessions.specs.Target.{TargetValue, LeadsOn, unbegun}
 
 -- What was written spells a legal transcript of what was read, of a login by a portal of this group, and what the session
 -- asked led its target from where it is at no unit to its end. What it asked of units, to the last, that it is over, is answered by

@@ -4,13 +4,13 @@ use Rattle.session_rules.specs.declared.end.End.{End}
 use Rattle.session_rules.specs.declared.identity.Identity.{Identity}
 use Rattle.session_rules.specs.declared.opening.Opening.{Opening}
 use Rattle.unit_control.specs.State.{UnitState}
-use Rattle.portal.specs.Sessions.{Sayings}
-use Rattle.portal.specs.Units.{Claims}
+use Rattle.live_sessions.specs.Sessions.{Sayings}
+use Rattle.session_units.specs.Units.{Claims}
 use Rattle.scsi_types.specs.Nexus.{group_number}
 use Rattle.session.specs.Transcript.{IsTranscribed}
 use Rattle.session_rules.specs.declared.opening.Opening.TheVariants.{Login}
-use Rattle.portal.specs.Late.{Late, late_of}
-use Rattle.portal.specs.Target.{TargetValue, LeadsOn}
+use Rattle.session_units.specs.Late.{Late, late_of}
+use Rattle.live_sessions.specs.Target.{TargetValue, LeadsOn}
 use Rattle.portal.proofs.Answering.{session_of}
 use Rattle.portal.proofs.worker.serve_session.Goals as goal
 
