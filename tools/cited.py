@@ -30,9 +30,12 @@ MAY_CITE = {
     },
     "disk_files/specs/Told": {"a_tell_says": ["disk_files/src/flushes.rt"], "a_look_says": ["disk_files/src/flushes.rt"]},
     "disk_preparer/specs/Beside": {"a_read_beside_says": ["file_preparer/src/preparer.rt", "timed_calls/specs/Back.antt"]},
-    "portal/specs/Leaving": {"an_end_says": ["portal/src/controllers.rt"]},
-    "portal/specs/Silence": {"a_limit_says": ["portal/src/connection.rt"], "no_limit_says": ["portal/src/connection.rt"]},
-    "portal/specs/Turns": {"an_attach_says": ["portal/src/target.rt"]},
+    "live_sessions/specs/Silence": {
+        "a_limit_says": ["live_sessions/src/connection.rt"],
+        "no_limit_says": ["live_sessions/src/connection.rt"],
+    },
+    "live_sessions/specs/Turns": {"an_attach_says": ["live_sessions/src/target.rt"]},
+    "session_units/specs/Leaving": {"an_end_says": ["session_units/src/controllers.rt"]},
     "timed_calls/specs/Back": {
         "a_look_says": ["timed_calls/src/watch.rt"],
         "a_read_behind_a_look_says": ["deadline/src/prepared.rt", "deadline/src/preparer_request.rt"],

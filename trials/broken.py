@@ -48,7 +48,7 @@ BROKEN = {
     "full_disk": Broken(ONE, "crates/disk_files/src/blocks.rt", "            Ok(()) => Ok(()),\n            Err(error) => {\n"
                         "                self.tell(Call::Write,", "            Ok(()) => Ok(()),\n            Err(27) if first % 2 == 0 => Ok(()),\n            Err(error) => {\n"
                         "                self.tell(Call::Write,", "full_disk.py limit", "WRONG block"),
-    "failover": Broken(ONE, "crates/portal/src/unit_session.rt", "                answered(self.submit(",
+    "failover": Broken(ONE, "crates/session_units/src/unit_session.rt", "                answered(self.submit(",
                        "                if bytes.len() == 4096 {\n"
                        "                    let _ = self.submit(rt, rooms.room_for(asked), units, gate, asked, bytes);\n                }\n"
                        "                answered(self.submit(", "failover.py 8 5", "were answered"),

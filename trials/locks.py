@@ -4,12 +4,12 @@ held. That is the table of docs/ARCHITECTURE.md, "The order of locks"; the two h
 
 # By the function that takes it, the innermost first that has a row; a row may name the caller too.
 TAKEN_BY = (
-    ("portal::target::SessionTarget::join", "logins"),
+    ("live_sessions::target::SessionTarget::join", "logins"),
     ("unit_lock::unit::LockedUnit", "unit"),
     ("array_units::any_unit::Seated::read", "seat"),
     ("forwarding::desk::Desk", "queue"),
     ("forwarding::job", "answer"),
-    ("portal::sessions::MutexSessions", "sessions"),
+    ("live_sessions::sessions::MutexSessions", "sessions"),
     ("portal::logins", "waiting logins"),
     ("portal::server::admit", "waiting logins"),
     ("portal::server::start", "waiting logins"),
@@ -28,7 +28,7 @@ TAKEN_BY = (
     ("meters::meters::Meters", "book"),
     ("event_log::log", "lines"),
     ("event_log::writer", "lines"),
-    ("portal::memory", "kept memory"),
+    ("session_units::memory", "kept memory"),
     ("window::serving::receive", "guests"),
     ("window::serving::work", "guests"),
 )

@@ -1,8 +1,8 @@
 -- Units and the preparers of their disks, in the same order: the names of both.
 use Rattle.std.proofs.Common.{◌≡◌, sym, subst, ℕ, List, map}
 use Rattle.disk_preparer.specs.declared.Node.{Node}
-use Rattle.portal.specs.Disks.{AreOver, named_by, over_their_own}
-use Rattle.portal.specs.declared.gate.Disks.{Ghosts as NamesOfDisks}
+use Rattle.session_units.specs.Disks.{AreOver, named_by, over_their_own}
+use Rattle.session_units.specs.declared.gate.Disks.{Ghosts as NamesOfDisks}
 use Rattle.unit_control.specs.State.{UnitState}
 use Rattle.unit_history.specs.Naming.{book_of, opening_of, table_of}
 use Rattle.unit_history.specs.declared.new_unit.NewUnit.{NewUnit}

@@ -1,7 +1,7 @@
 //! The array as it is served.
 
 ghost use Rattle.std.specs.Prelude.{◌≡◌, ◌≤◌, length, map};
-ghost use Rattle.portal.specs.Disks.{AreOver};
+ghost use Rattle.session_units.specs.Disks.{AreOver};
 ghost use Rattle.portal.specs.Lanes.{AreLanesOf};
 ghost use Rattle.scsi_types.specs.declared.names.Group.TheVariants.{One, Two};
 ghost use Rattle.unit_history.specs.Naming.{IsNamed};
@@ -18,11 +18,10 @@ use command_line::{Fault, MAX_UNITS, Options};
 use disk_preparer::{OnDisk, Preparer};
 use event_log::Log;
 use events::{Event, Resource};
-use portal::{
-    Controllers, Disks, Gate, Lane, Logins, Prepared, Server, SmallStacks, TargetDevice, listen,
-    start_flushers, start_lanes,
-};
+use live_sessions::TargetDevice;
+use portal::{Lane, Logins, Server, SmallStacks, listen, start_flushers, start_lanes};
 use scsi_types::Group;
+use session_units::{Controllers, Disks, Gate, Prepared};
 use std::alloc::Global;
 use std::fs::File;
 use std::io::{BufRead, Write};
@@ -284,7 +283,7 @@ fn serve_named<
 /// Serves an array whose files are open, at the portals that the words ask for, until its console has no more lines for it or says
 /// `quit`. Behind it the last lines of the log are written, and only then another server may have the files. The preparer at each
 /// place is of the file that the unit there is over.
-#[tactic(auto, using(portal::specs::Disks::over_their_own, crate::proofs::Pairs::over_the_same))]
+#[tactic(auto, using(session_units::specs::Disks::over_their_own, crate::proofs::Pairs::over_the_same))]
 pub fn serve<
     B: Blocks + OnDisk + Send + Sync + 'static,
     F: Blocks + Send + Sync + 'static,

@@ -18,7 +18,7 @@ use Rattle.session_rules.specs.Phases.{asked, exchanges}
 use Rattle.session.specs.Transcript.{IsTranscribed}
 use Rattle.session_rules.specs.Turn.{Leads}
 use Rattle.session_rules.specs.declared.end.End.{End}
-use Rattle.session_rules.specs.declared.identity.Identity.{Identity}
+use Rattle.session_rules.specs.declared.target_record.TargetRecord.{TargetRecord}
 use Rattle.session_rules.specs.declared.opening.Opening.TheVariants.{Login}
 use Rattle.session_rules.specs.declared.target.BeginAnswer.TheVariants.{Begun, Refused}
 use Rattle.session_rules.specs.declared.target.TargetAnswer.{TargetAnswer}
@@ -28,20 +28,20 @@ use Rattle.session_rules.specs.declared.target.ResetAnswer.TheVariants as resets
 use Rattle.unit_control.specs.State.{UnitState}
 use Rattle.unit_control.specs.Entry.{Entry, Attach}
 use Rattle.unit_entries.specs.Histories.{IsHistory}
-use Rattle.portal.specs.Late.{Late, late_at}
-use Rattle.portal.specs.Sessions.{Sayings}
-use Rattle.portal.specs.Units.{Claims}
-use Rattle.portal.specs.Submitted.{At, IsServed, IsResetAnswer}
-use Rattle.portal.specs.Entries.{Done, done_by, reset_by, of_unit, done_in, done_at, AreEntries, HasDone, HasDoneNothing, IsEnd, IsNormal}
-use Rattle.portal.specs.Entries.{AreAnswered}
-use Rattle.portal.specs.Target.{TargetValue, Sight, IsAbsent, IsAttachedTo, AreAttached, AreOver, HasBegun, IsOver, IsOverAt, IsRefused}
-use Rattle.portal.specs.Target.{IsServedAt, IsResetIn, LeadsOn, unbegun}
-use Rattle.portal.specs.declared.target.BeginFault.{BeginFault}
+use Rattle.session_units.specs.Late.{Late, late_at}
+use Rattle.live_sessions.specs.Sessions.{Sayings}
+use Rattle.session_units.specs.Units.{Claims}
+use Rattle.session_units.specs.Submitted.{At, IsServed, IsResetAnswer}
+use Rattle.session_units.specs.Entries.{Done, done_by, reset_by, of_unit, done_in, done_at, AreEntries, HasDone, HasDoneNothing, IsEnd, IsNormal}
+use Rattle.session_units.specs.Entries.{AreAnswered}
+use Rattle.live_sessions.specs.Target.{TargetValue, Sight, IsAbsent, IsAttachedTo, AreAttached, AreOver, HasBegun, IsOver, IsOverAt, IsRefused}
+use Rattle.live_sessions.specs.Target.{IsServedAt, IsResetIn, LeadsOn, unbegun}
+use Rattle.live_sessions.specs.declared.target.BeginFault.{BeginFault}
 use Rattle.portal.specs.Worker.{IsSession}
 use Rattle.scsi_types.specs.Nexus.{group_number}
-use Rattle.portal.proofs.Chains.{both_of, GrowsAt, grows_served, grows_reset_at}
-use Rattle.portal.proofs.Retiring.{Ended, ended, over_at, over_none}
-use Rattle.portal.proofs.Slots.{get_written, get_other, nowhere, there}
+use Rattle.session_units.proofs.Chains.{both_of, GrowsAt, grows_served, grows_reset_at}
+use Rattle.live_sessions.proofs.Retiring.{Ended, ended, over_at, over_none}
+use Rattle.live_sessions.proofs.Slots.{get_written, get_other, nowhere, there}
 
 either_none : (b : Bool) (ds : List Done) → ds ≡ [] → cond b ds [] ≡ []
 either_none true ds is = is
@@ -532,7 +532,7 @@ module _ (claims : Claims) (table : Sayings) (late : Late) (opening : ℕ → Un
       (record { units_is = refl; group_is = refl; stage = inl (record { begun = refl; at = refl; nothing = λ (unit : ℕ). refl }) })
       is)
 
-  pub session_of : (me : Identity) (left left' held held' : Option (List ℕ)) (after : TargetValue) (end : End) (seen : List Sight)
+  pub session_of : (me : TargetRecord) (left left' held held' : Option (List ℕ)) (after : TargetValue) (end : End) (seen : List Sight)
       → IsTranscribed (LeadsOn claims table late opening) units me (Login (group_number group)) left left' held held' (unbegun units group) after end
       → seen ≡ after.seen
       → IsSession claims table late opening units group me left left' held held' end seen

@@ -1,9 +1,9 @@
 //! The threads that flush disks to which much is written: one for each unit.
 
-use crate::gate::Gate;
 use crate::server::Server;
 use crate::stacks::Stacks;
 use scsi_types::NoMemory;
+use session_units::Gate;
 use std::alloc::Global;
 use std::sync::{Arc, Wait};
 use std::thread::{Builder, JoinHandle, Threads};

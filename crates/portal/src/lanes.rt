@@ -2,12 +2,11 @@
 ghost use Rattle.std.specs.Prelude.{◌≡◌, IfOk};
 ghost use Rattle.portal.specs.Lanes.{AreLanesOf};
 
-use crate::controllers::Controllers;
-use crate::gate::Gate;
 use crate::server::Server;
 use crate::stacks::Stacks;
 use block_file::{Blocks, Opener};
 use scsi_types::{Group, NoMemory};
+use session_units::{Controllers, Gate};
 use std::alloc::Global;
 use std::marker::Model;
 use std::sync::{Arc, Wait};

@@ -1,18 +1,15 @@
 //! The target of one session, of which the log is told what happens.
 ghost use Rattle.std.specs.Prelude.{◌≡◌, [], map};
 
-use crate::connection::Connection;
-use crate::gate::Gate;
 use crate::observer::Observer;
-use crate::sessions::Sessions;
-use crate::target::{BeginFault, SessionTarget};
 use crate::told::{is_trouble, operation_of, reservation_in, sense_of, states_in};
-use crate::units::LogicalUnits;
 use event_log::Log;
 use events::{By, Cause, Event, Initiator};
+use live_sessions::{BeginFault, Connection, SessionTarget, Sessions};
 use login::SessionType;
 use scsi_types::{Asked, Status};
 use session::{BeginAnswer, ResetAnswer, Target, TargetAnswer};
+use session_units::{Gate, LogicalUnits};
 use std::alloc::Global;
 use std::marker::Model;
 use std::sync::Wait;
@@ -170,7 +167,7 @@ pub struct LoggedTarget<
 
 impl<'a, R: Wait + Clock, U: LogicalUnits + Drop, G: Gate + Drop, S: Sessions + Drop> Model
     for LoggedTarget<'a, R, U, G, S> {
-    ghost use Rattle.portal.specs.Target.{TargetValue};
+    ghost use Rattle.live_sessions.specs.Target.{TargetValue};
 
     ghost Value = { TargetValue };
 
@@ -238,8 +235,8 @@ fn kind_of(kind: SessionType) -> events::SessionType {
 
 impl<'a, R: Wait + Clock, U: LogicalUnits + Drop, G: Gate + Drop, S: Sessions + Drop> Target
     for LoggedTarget<'a, R, U, G, S> {
-    ghost use Rattle.portal.specs.Late.{late_of};
-    ghost use Rattle.portal.specs.Target.{LeadsOn};
+    ghost use Rattle.session_units.specs.Late.{late_of};
+    ghost use Rattle.live_sessions.specs.Target.{LeadsOn};
 
     ghost leads = { LeadsOn U.claims S.says (late_of G.is_late G.lasts) U.opening };
 

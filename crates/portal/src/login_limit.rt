@@ -1,8 +1,8 @@
 //! The one deadline of a login.
 
-use crate::connection::Connection;
 use crate::logins::LoginPlace;
 use crate::observer::Observer;
+use live_sessions::Connection;
 use session::{Source, Unread};
 use std::sync::Wait;
 use std::time::{Clock, Duration};

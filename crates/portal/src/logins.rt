@@ -1,7 +1,7 @@
 //! The connections whose login is not over, and those of discovery sessions, which whoever comes may begin as many of as he likes.
 ghost use Rattle.std.specs.Prelude.{◌≡◌, ◌+◌, IfSome};
 
-use crate::connection::Connection;
+use live_sessions::Connection;
 use scsi_types::NoMemory;
 use std::alloc::Global;
 use std::cell::Cell;

@@ -1,9 +1,9 @@
 //! Who looks at a session for those who run the array.
 
 use crate::counted::served_of;
-use crate::target::BeginFault;
 use event_log::Log;
 use events::{Event, Initiator, Path, SessionType};
+use live_sessions::BeginFault;
 use meters::{Hand, Visit};
 use scsi_types::Asked;
 use session::TargetAnswer;

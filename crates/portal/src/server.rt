@@ -2,26 +2,23 @@
 ghost use Rattle.std.specs.Prelude.{◌≡◌, IfOk, map};
 ghost use Rattle.std.specs.Arc.{arc_value};
 ghost use Rattle.portal.specs.Server.{named_by};
-ghost use Rattle.portal.specs.Silence.{has_limit, login_silence};
+ghost use Rattle.live_sessions.specs.Silence.{has_limit, login_silence};
 
-use crate::connection::Connection;
-use crate::device::TargetDevice;
-use crate::gate::Gate;
 use crate::keepalive::is_kept_alive;
-use crate::live::Table;
 use crate::logged_target::Visitor;
 use crate::login_limit::LimitedSource;
 use crate::logins::{LoginPlace, Logins};
 use crate::observer::Observer;
 use crate::stacks::{STACK, Stacks};
-use crate::units::LogicalUnits;
 use crate::wire::{KeptSource, ObservedSink};
 use crate::worker::serve_session;
 use event_log::Log;
 use events::{Event, Initiator, Path, Resource, Why};
 use libc::EMFILE;
+use live_sessions::{Connection, Table, TargetDevice};
 use scsi_types::{Group, NoMemory};
-use session::{End, Identity, Watched};
+use session::{End, TargetRecord, Watched};
+use session_units::{Gate, LogicalUnits};
 use std::alloc::{AllocError, Global};
 use std::io::ErrorKind;
 use std::net::{Ipv4Addr, Shutdown, SocketAddr, SocketAddrV4, TcpListener, TcpStream};
@@ -169,7 +166,7 @@ fn serve_as<R: Wait + Clock, U: LogicalUnits + Drop, G: Gate + Drop>(
     socket: &Socket,
     place: &LoginPlace<'_, R, Socket>,
     path: Path,
-    me: &Identity<'_>,
+    me: &TargetRecord<'_>,
 ) -> Result<(), NoMemory>
     requires { has_limit (arc_value socket.now) login_silence }
 {
@@ -232,7 +229,7 @@ fn serve_socket<R: Wait + Clock, U: LogicalUnits + Drop, G: Gate + Drop>(
     let reached = *path.portal.ip();
     let first = named(alloc, reached, &server.first)?;
     let second = named(alloc, reached, &server.second)?;
-    let me = Identity {
+    let me = TargetRecord {
         target_name: &server.target_name,
         first: &first,
         second: &second,

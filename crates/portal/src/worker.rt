@@ -2,20 +2,16 @@
 ghost use Rattle.std.specs.Prelude.{◌≡◌, map, IfOk, OnErr};
 ghost use Rattle.session_rules.specs.declared.end.End.TheVariants.{InputFailed, OutputFailed};
 ghost use Rattle.session.specs.Transcript.{IsFailureOf};
-ghost use Rattle.portal.specs.Late.{late_of};
-ghost use Rattle.portal.specs.Silence.{login_silence};
+ghost use Rattle.session_units.specs.Late.{late_of};
+ghost use Rattle.live_sessions.specs.Silence.{login_silence};
 ghost use Rattle.portal.specs.Worker.{IsSession};
 
-use crate::connection::Connection;
-use crate::device::TargetDevice;
-use crate::gate::Gate;
 use crate::logged_target::{LoggedTarget, Visitor};
 use crate::observer::Observer;
-use crate::sessions::Sessions;
-use crate::target::SessionTarget;
-use crate::units::LogicalUnits;
+use live_sessions::{Connection, SessionTarget, Sessions, TargetDevice};
 use scsi_types::{Group, NoMemory};
-use session::{End, Identity, Opening, Sink, Source, serve_stream};
+use session::{End, Opening, Sink, Source, TargetRecord, serve_stream};
+use session_units::{Gate, LogicalUnits};
 use std::alloc::Global;
 use std::sync::Wait;
 use std::time::Clock;
@@ -40,7 +36,7 @@ pub fn serve_session<
     connection: T::Connection,
     source: &mut S,
     sink: &mut K,
-    me: &Identity<'_>,
+    me: &TargetRecord<'_>,
     observer: &Observer<'_, R>,
 ) -> Result<(End, Visitor, Vec<U::History>), NoMemory>
     requires silence { T.Connection.is_limited connection login_silence }

@@ -1,6 +1,6 @@
 //! Blocks that are read beside their unit, by the gate of the product before a disk in a file. By another handle a block of the file
 //! changes behind the read, of which the device is told nothing: so it shows whether it took what was read, or read once more.
-ghost use Rattle.portal.specs.Disks.{no_file};
+ghost use Rattle.session_units.specs.Disks.{no_file};
 
 use crate::ends::must;
 use crate::prepared::Nameless;
@@ -9,8 +9,8 @@ use block_file::{Blocks, ReplyMemory};
 use disk_files::FileBlocks;
 use disk_preparer::{BlockMemory, Preparer};
 use file_preparer::FilePreparer;
-use portal::{Gate, Prepared};
 use scsi_types::Command;
+use session_units::{Gate, Prepared};
 use std::alloc::Global;
 use std::fs;
 use std::fs::{File, Files};

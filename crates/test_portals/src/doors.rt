@@ -2,8 +2,8 @@
 ghost use Rattle.std.specs.Prelude.{true};
 
 use disk_preparer::Account;
-use portal::{Gate, Pass};
 use scsi_types::{Asked, Command};
+use session_units::{Gate, Pass};
 use std::sync::atomic::{AtomicUsize, Ordering};
 use std::sync::{Mutex, Wait};
 use test_memory::Latch;

@@ -1,12 +1,12 @@
 //! The gate of the product, before disks that count what they are asked.
 ghost use Rattle.std.specs.Prelude.{[], true};
-ghost use Rattle.portal.specs.Disks.{no_file};
+ghost use Rattle.session_units.specs.Disks.{no_file};
 
 use crate::ends::must;
 use block_file::ReplyMemory;
 use disk_preparer::{BlockMemory, Preparer};
-use portal::{Disks, Gate, Pass, Prepared};
 use scsi_types::{Asked, Command};
+use session_units::{Disks, Gate, Pass, Prepared};
 use std::alloc::Global;
 use std::process::Abort;
 use std::sync::Arc;

@@ -1,6 +1,7 @@
 //! What a socket is told of its initiator's silence, and of its end.
 use crate::ends::must;
-use portal::{Connection, Socket};
+use live_sessions::Connection;
+use portal::Socket;
 use std::alloc::Global;
 use std::io::{Read, Write};
 use std::net::{Ipv4Addr, Net, SocketAddrV4, TcpListener, TcpStream};

@@ -1,21 +1,21 @@
 use Rattle.std.proofs.Common.{◌≡◌, ℕ, List, [], Option, Result, Ok, Err, IfOk, OnErr, ap, ◌∙◌, subst}
 use Rattle.scsi_types.specs.declared.memory.NoMemory.{NoMemory}
 use Rattle.session_rules.specs.declared.end.End.{End}
-use Rattle.session_rules.specs.declared.identity.Identity.{Identity}
+use Rattle.session_rules.specs.declared.target_record.TargetRecord.{TargetRecord}
 use Rattle.session_rules.specs.declared.opening.Opening.{Opening}
 use Rattle.unit_control.specs.State.{UnitState}
-use Rattle.portal.specs.Sessions.{Sayings}
-use Rattle.portal.specs.Units.{Claims}
+use Rattle.live_sessions.specs.Sessions.{Sayings}
+use Rattle.session_units.specs.Units.{Claims}
 use Rattle.scsi_types.specs.Nexus.{group_number}
 use Rattle.session.specs.Transcript.{IsTranscribed}
 use Rattle.session_rules.specs.declared.opening.Opening.TheVariants.{Login}
-use Rattle.portal.specs.Late.{Late, late_of}
-use Rattle.portal.specs.Target.{TargetValue, LeadsOn}
+use Rattle.session_units.specs.Late.{Late, late_of}
+use Rattle.live_sessions.specs.Target.{TargetValue, LeadsOn}
 use Rattle.portal.proofs.Answering.{session_of}
 use Rattle.portal.proofs.worker.serve_session.Goals as goal
 
 -- a session that is over is at no unit, nor is one that did not begin
-at_none : (claims : Claims) (table : Sayings) (late : Late) (opening : ℕ → UnitState) (units : ℕ) (me : Identity) (login : Opening)
+at_none : (claims : Claims) (table : Sayings) (late : Late) (opening : ℕ → UnitState) (units : ℕ) (me : TargetRecord) (login : Opening)
     (left left' held held' : Option (List ℕ)) (old new : TargetValue) (P : Type 0) (end : Result End NoMemory) → old.at ≡ []
     → IfOk end (IsTranscribed (LeadsOn claims table late opening) units me login left left' held held' old new)
     → OnErr end P → (P → new ≡ old) → new.at ≡ []

@@ -1,0 +1,4 @@
+pub mod Attaching
+pub mod Refusing
+pub mod Retiring
+pub mod Slots

@@ -1,0 +1,4 @@
+pub mod AllTold
+pub mod Apart
+pub mod AsTold
+pub mod Chains
