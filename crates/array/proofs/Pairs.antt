@@ -6,7 +6,7 @@ use Rattle.session_units.specs.declared.gate.Disks.{Ghosts as NamesOfDisks}
 use Rattle.unit_control.specs.State.{UnitState}
 use Rattle.unit_history.specs.Naming.{book_of, opening_of, table_of}
 use Rattle.unit_history.specs.declared.new_unit.NewUnit.{NewUnit}
-use Rattle.unit_sequence.specs.declared.naming.Namings.{Ghosts as NamesOfUnits}
+use Rattle.unit_sequence.specs.declared.naming.ArrayNaming.{Ghosts as NamesOfUnits}
 
 -- the names of an array's units, as they are picked
 abbrev pub names_of : {S B F O : Type 0} → (B → List (List ℕ)) → List (NewUnit B F O) → NamesOfUnits S UnitState

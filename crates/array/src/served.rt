@@ -34,7 +34,7 @@ use std::sync::{Arc, Mutex, Wait};
 use std::thread::Threads;
 use std::time::Clock;
 use unit_history::{NewUnit, Opened};
-use unit_sequence::Namings;
+use unit_sequence::ArrayNaming;
 
 // By what hosts find the array: the target's name, and where each controller's portals listen; and the log that is told.
 #[derive(Drop)]
@@ -73,7 +73,7 @@ type Lanes = ([Lane; 4], [Lane; 4]);
 
 // An array that is served, which its threads share.
 #[derive(Drop)]
-struct Served<'a, N: Namings<Opened>, B: Blocks, F: Blocks, O: Opener<B>, G: Drop, R> {
+struct Served<'a, N: ArrayNaming<Opened>, B: Blocks, F: Blocks, O: Opener<B>, G: Drop, R> {
     rt: &'a R,
     alloc: Global,
     server: Arc<Server<Controllers<B, F, O, N>, G>, Global>,
@@ -81,7 +81,7 @@ struct Served<'a, N: Namings<Opened>, B: Blocks, F: Blocks, O: Opener<B>, G: Dro
 
 impl<
     'a,
-    N: Namings<Opened> + Send + Sync + 'static,
+    N: ArrayNaming<Opened> + Send + Sync + 'static,
     B: Blocks + Send + Sync + 'static,
     F: Blocks + Send + Sync + 'static,
     O: Opener<B> + Send + Sync + 'static,
@@ -218,7 +218,7 @@ pub fn tell_want<R: Clock>(rt: &R, log: &Log, fault: Fault) {
 
 // Serves an array, as `serve` does, under the names that are given to its units and to their disks.
 fn serve_named<
-    N: Namings<Opened> + Disks + Send + Sync + 'static,
+    N: ArrayNaming<Opened> + Disks + Send + Sync + 'static,
     B: Blocks + OnDisk + Send + Sync + 'static,
     F: Blocks + Send + Sync + 'static,
     O: Opener<B> + Send + Sync + 'static,

@@ -16,10 +16,10 @@ use std::net::SocketAddrV4;
 use std::sync::{Arc, Wait};
 use std::time::Clock;
 use unit_history::Opened;
-use unit_sequence::Namings;
+use unit_sequence::ArrayNaming;
 
 // As its console sees it.
-fn operated<'a, R: Wait + Clock, B: Blocks, F: Blocks, O: Opener<B>, N: Namings<Opened>, G: Drop>(
+fn operated<'a, R: Wait + Clock, B: Blocks, F: Blocks, O: Opener<B>, N: ArrayNaming<Opened>, G: Drop>(
     rt: &'a R,
     server: &'a Server<Controllers<B, F, O, N>, G>,
 ) -> Operated<'a, R, B, F, O, N> {
@@ -32,11 +32,11 @@ fn operated<'a, R: Wait + Clock, B: Blocks, F: Blocks, O: Opener<B>, N: Namings<
 
 /// The server of an array, as what administers it asks. Several threads share it.
 #[derive(Drop)]
-pub struct AdministeredServer<B: Blocks, F: Blocks, O: Opener<B>, N: Namings<Opened>, G: Drop> {
+pub struct AdministeredServer<B: Blocks, F: Blocks, O: Opener<B>, N: ArrayNaming<Opened>, G: Drop> {
     pub server: Arc<Server<Controllers<B, F, O, N>, G>, Global>,
 }
 
-impl<B: Blocks, F: Blocks, O: Opener<B>, N: Namings<Opened>, G: Drop> Administered
+impl<B: Blocks, F: Blocks, O: Opener<B>, N: ArrayNaming<Opened>, G: Drop> Administered
     for AdministeredServer<B, F, O, N, G> {
     fn log(&self) -> &Log {
         &self.server.log

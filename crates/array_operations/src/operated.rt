@@ -15,7 +15,7 @@ use status::Row;
 use std::sync::Wait;
 use std::time::Clock;
 use unit_history::Opened;
-use unit_sequence::Namings;
+use unit_sequence::ArrayNaming;
 use unit_state::MoveFault;
 
 /// The codes of the access states standby and unavailable (SPC-4, 5.15.2.2).
@@ -25,7 +25,7 @@ const UNAVAILABLE: u64 = 3;
 
 /// Both controllers, as the console sees them.
 #[derive(Drop)]
-pub struct Operated<'a, R: Wait + Clock, B: Blocks, F: Blocks, O: Opener<B>, N: Namings<Opened>> {
+pub struct Operated<'a, R: Wait + Clock, B: Blocks, F: Blocks, O: Opener<B>, N: ArrayNaming<Opened>> {
     pub rt: &'a R,
     pub controllers: &'a Controllers<B, F, O, N>,
     /// What happens is told to it.
@@ -130,7 +130,7 @@ fn end_of(end: Result<(), NotMoved>) -> Result<(), usize> {
 }
 
 /// The row of the unit at a place, where there is one.
-pub(crate) fn row_at<R: Wait, B: Blocks, F: Blocks, O: Opener<B>, N: Namings<Opened>>(
+pub(crate) fn row_at<R: Wait, B: Blocks, F: Blocks, O: Opener<B>, N: ArrayNaming<Opened>>(
     rt: &R,
     units: &Units<B, F, O, N>,
     place: usize,
@@ -141,7 +141,7 @@ pub(crate) fn row_at<R: Wait, B: Blocks, F: Blocks, O: Opener<B>, N: Namings<Ope
     Some(units.read(rt, place))
 }
 
-impl<R: Wait + Clock, B: Blocks, F: Blocks, O: Opener<B>, N: Namings<Opened>> Operated<
+impl<R: Wait + Clock, B: Blocks, F: Blocks, O: Opener<B>, N: ArrayNaming<Opened>> Operated<
     '_,
     R,
     B,
@@ -182,7 +182,7 @@ impl<R: Wait + Clock, B: Blocks, F: Blocks, O: Opener<B>, N: Namings<Opened>> Op
     }
 }
 
-impl<R: Wait + Clock, B: Blocks, F: Blocks, O: Opener<B>, N: Namings<Opened>> Operations
+impl<R: Wait + Clock, B: Blocks, F: Blocks, O: Opener<B>, N: ArrayNaming<Opened>> Operations
     for Operated<'_, R, B, F, O, N> {
     fn status(&mut self, unit: u8) -> Option<Row> {
         row_at(self.rt, self.controllers.units(), usize::from(unit))

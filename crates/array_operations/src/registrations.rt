@@ -7,7 +7,7 @@ use registrants::{Registrant, Reservation};
 use reservations::Registry;
 use std::alloc::{AllocError, Global};
 use unit_history::Opened;
-use unit_sequence::Namings;
+use unit_sequence::ArrayNaming;
 
 // The type of the reservation, where this registrant holds it (SPC-4, 5.13.9): of types 7 and 8 every registrant does.
 // 0 where it holds none.
@@ -55,7 +55,7 @@ fn all_of(alloc: Global, registry: &Registry) -> Result<Vec<Registration>, Alloc
 }
 
 /// Those of the unit at a place. None: there is no such unit, a command has the unit for long, or there was no memory.
-pub(crate) fn registrations<B: Blocks, F: Blocks, O: Opener<B>, N: Namings<Opened>>(
+pub(crate) fn registrations<B: Blocks, F: Blocks, O: Opener<B>, N: ArrayNaming<Opened>>(
     alloc: Global,
     units: &Units<B, F, O, N>,
     place: usize,

@@ -15,17 +15,17 @@ use status::Row;
 use std::sync::{Mutex, Wait};
 use unit_history::{LegalHistory, Opened, Pass, Seat, SharedUnit};
 use unit_lock::Refused;
-use unit_sequence::Namings;
+use unit_sequence::ArrayNaming;
 use unit_state::MoveFault;
 
 /// A shared unit, and a reader's seat at its board.
 #[derive(Drop)]
-pub struct Seated<B: Blocks, F: Blocks, O: Opener<B>, N: Namings<Opened>, const U: usize> {
+pub struct Seated<B: Blocks, F: Blocks, O: Opener<B>, N: ArrayNaming<Opened>, const U: usize> {
     pub(crate) unit: SharedUnit<B, F, O, N, U>,
     pub(crate) seat: Mutex<Seat<B, F, O, N, U>>,
 }
 
-impl<B: Blocks, F: Blocks, O: Opener<B>, N: Namings<Opened>, const U: usize> Seated<B, F, O, N, U> {
+impl<B: Blocks, F: Blocks, O: Opener<B>, N: ArrayNaming<Opened>, const U: usize> Seated<B, F, O, N, U> {
     /// What the board shows. The lock is the reader's own.
     fn read<W: Wait>(&self, rt: &W) -> Row
         ensures { IsRead (O.claims && B.claims) (N.opening U) U result }
@@ -37,7 +37,7 @@ impl<B: Blocks, F: Blocks, O: Opener<B>, N: Namings<Opened>, const U: usize> Sea
 
 /// A shared unit, by its place.
 #[derive(Drop)]
-pub enum AnyUnit<B: Blocks, F: Blocks, O: Opener<B>, N: Namings<Opened>> {
+pub enum AnyUnit<B: Blocks, F: Blocks, O: Opener<B>, N: ArrayNaming<Opened>> {
     Zero(Seated<B, F, O, N, 0>),
     One(Seated<B, F, O, N, 1>),
     Two(Seated<B, F, O, N, 2>),
@@ -64,7 +64,7 @@ macro_rules! each {
     };
 }
 
-impl<B: Blocks, F: Blocks, O: Opener<B>, N: Namings<Opened>> AnyUnit<B, F, O, N> {
+impl<B: Blocks, F: Blocks, O: Opener<B>, N: ArrayNaming<Opened>> AnyUnit<B, F, O, N> {
     /// Attaches a session of this port by this group, as [`SharedUnit::attach`].
     pub(crate) fn attach<W: Wait>(
         &self,

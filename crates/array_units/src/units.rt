@@ -20,7 +20,7 @@ use std::marker::Model;
 use std::sync::{Mutex, Wait};
 use unit_history::{LegalHistory, NewUnit, Opened, Pass, SharedUnit};
 use unit_lock::Refused;
-use unit_sequence::Namings;
+use unit_sequence::ArrayNaming;
 use unit_state::MoveFault;
 
 /// The most units of an array.
@@ -28,17 +28,17 @@ pub const MOST_UNITS: usize = 8;
 
 /// Units 0 to n-1 of an array, which all threads share, none on a cache line of another. Contracts see how many there
 /// are.
-pub struct Units<B: Blocks, F: Blocks, O: Opener<B>, N: Namings<Opened>> {
+pub struct Units<B: Blocks, F: Blocks, O: Opener<B>, N: ArrayNaming<Opened>> {
     units: Vec<CachePadded<AnyUnit<B, F, O, N>>>,
 }
 
-impl<B: Blocks, F: Blocks, O: Opener<B>, N: Namings<Opened>> Drop for Units<B, F, O, N> {
+impl<B: Blocks, F: Blocks, O: Opener<B>, N: ArrayNaming<Opened>> Drop for Units<B, F, O, N> {
     fn drop(self) {
         let Self { units: _ } = self;
     }
 }
 
-impl<B: Blocks, F: Blocks, O: Opener<B>, N: Namings<Opened>> Model for Units<B, F, O, N> {
+impl<B: Blocks, F: Blocks, O: Opener<B>, N: ArrayNaming<Opened>> Model for Units<B, F, O, N> {
     ghost use Rattle.std.specs.Prelude.{ℕ, ◌≤◌, length};
     ghost use Rattle.array_units.specs.Places.{AreInOrder};
 
@@ -50,7 +50,7 @@ impl<B: Blocks, F: Blocks, O: Opener<B>, N: Namings<Opened>> Model for Units<B, 
 }
 
 /// The unit at a place under its name, with a reader's seat at its board.
-fn seated<B: Blocks, F: Blocks, O: Opener<B>, N: Namings<Opened>, const U: usize, W: Wait>(
+fn seated<B: Blocks, F: Blocks, O: Opener<B>, N: ArrayNaming<Opened>, const U: usize, W: Wait>(
     rt: &W,
     alloc: Global,
     new: NewUnit<B, F, O>,
@@ -68,7 +68,7 @@ fn seated<B: Blocks, F: Blocks, O: Opener<B>, N: Namings<Opened>, const U: usize
 }
 
 /// The unit at a place that is known when it runs.
-fn any_seated<B: Blocks, F: Blocks, O: Opener<B>, N: Namings<Opened>, W: Wait>(
+fn any_seated<B: Blocks, F: Blocks, O: Opener<B>, N: ArrayNaming<Opened>, W: Wait>(
     rt: &W,
     alloc: Global,
     place: usize,
@@ -92,7 +92,7 @@ fn any_seated<B: Blocks, F: Blocks, O: Opener<B>, N: Namings<Opened>, W: Wait>(
 }
 
 /// Puts the next unit under its name behind those that are there. Refused, it is dropped.
-fn seat_next<B: Blocks, F: Blocks, O: Opener<B>, N: Namings<Opened>, W: Wait>(
+fn seat_next<B: Blocks, F: Blocks, O: Opener<B>, N: ArrayNaming<Opened>, W: Wait>(
     rt: &W,
     alloc: Global,
     units: &mut Vec<CachePadded<AnyUnit<B, F, O, N>>>,
@@ -109,7 +109,7 @@ fn seat_next<B: Blocks, F: Blocks, O: Opener<B>, N: Namings<Opened>, W: Wait>(
     Ok(())
 }
 
-impl<B: Blocks, F: Blocks, O: Opener<B>, N: Namings<Opened>> Units<B, F, O, N> {
+impl<B: Blocks, F: Blocks, O: Opener<B>, N: ArrayNaming<Opened>> Units<B, F, O, N> {
     /// These units under their names, in their order. Refused, they are dropped.
     pub fn new<W: Wait>(
         rt: &W,

@@ -17,7 +17,7 @@ use scsi_types::Group;
 use std::sync::Wait;
 pub use unit_control::preferred;
 use unit_history::{LegalHistory, Opened};
-use unit_sequence::Namings;
+use unit_sequence::ArrayNaming;
 use unit_state::MoveFault;
 pub use up::bring_up;
 
@@ -44,7 +44,7 @@ fn down_list(controller: Group) -> GroupsList
 /// Moves the unit at a place as a parameter list of SET TARGET PORT GROUPS says (SPC-4, 6.45), or tells why it stays. The
 /// change counts as implicit (SPC-4, 5.15.2.8): every attached session hears of it. Where the blocks cannot be opened for the
 /// new owner, the unit is as it was.
-pub fn set_groups<B: Blocks, F: Blocks, O: Opener<B>, N: Namings<Opened>, W: Wait>(
+pub fn set_groups<B: Blocks, F: Blocks, O: Opener<B>, N: ArrayNaming<Opened>, W: Wait>(
     rt: &W,
     units: &Units<B, F, O, N>,
     place: usize,

@@ -9,7 +9,7 @@ use block_file::{Blocks, Opener};
 use std::marker::Model;
 use std::sync::Wait;
 use unit_history::{LegalHistory, Opened};
-use unit_sequence::Namings;
+use unit_sequence::ArrayNaming;
 use unit_state::MoveFault;
 
 /// A parameter list of SET TARGET PORT GROUPS with a descriptor for each group (SPC-4, 6.45).
@@ -47,13 +47,13 @@ pub trait Moves {
 
 /// A move that was asked, as it is kept: also one that was not done.
 #[derive(Drop)]
-struct Asked<B: Blocks, F: Blocks, O: Opener<B>, N: Namings<Opened>> {
+struct Asked<B: Blocks, F: Blocks, O: Opener<B>, N: ArrayNaming<Opened>> {
     list: GroupsList,
     seen: LegalHistory<B, F, O, N>,
     end: Result<Change, MoveFault>,
 }
 
-impl<B: Blocks, F: Blocks, O: Opener<B>, N: Namings<Opened>> Model for Asked<B, F, O, N> {
+impl<B: Blocks, F: Blocks, O: Opener<B>, N: ArrayNaming<Opened>> Model for Asked<B, F, O, N> {
     ghost use Rattle.failover.specs.Mover.{Move};
 
     ghost Value = { Move };
@@ -64,12 +64,12 @@ impl<B: Blocks, F: Blocks, O: Opener<B>, N: Namings<Opened>> Model for Asked<B, 
 /// Moves that were asked, the first first. It has room for eight, one for each of `MOST_UNITS`. Nothing reads them: contracts say by
 /// them what was moved, and what not.
 #[derive(Drop)]
-struct Kept<B: Blocks, F: Blocks, O: Opener<B>, N: Namings<Opened>> {
+struct Kept<B: Blocks, F: Blocks, O: Opener<B>, N: ArrayNaming<Opened>> {
     moves: [Option<Asked<B, F, O, N>>; MOST_UNITS],
     count: usize,
 }
 
-impl<B: Blocks, F: Blocks, O: Opener<B>, N: Namings<Opened>> Model for Kept<B, F, O, N> {
+impl<B: Blocks, F: Blocks, O: Opener<B>, N: ArrayNaming<Opened>> Model for Kept<B, F, O, N> {
     ghost use Rattle.std.specs.Prelude.{◌≡◌, List, length};
     ghost use Rattle.failover.specs.Mover.{AreFirst, Move, kept_in};
 
@@ -80,7 +80,7 @@ impl<B: Blocks, F: Blocks, O: Opener<B>, N: Namings<Opened>> Model for Kept<B, F
     ghost invariant = { λ k. (length k.moves ≡ 8) × AreFirst k.moves × (k.count ≡ length (kept_in k.moves)) };
 }
 
-impl<B: Blocks, F: Blocks, O: Opener<B>, N: Namings<Opened>> Kept<B, F, O, N> {
+impl<B: Blocks, F: Blocks, O: Opener<B>, N: ArrayNaming<Opened>> Kept<B, F, O, N> {
     // With no move.
     fn new() -> Kept<B, F, O, N>
         ensures { result ≡ [] }
@@ -102,18 +102,18 @@ impl<B: Blocks, F: Blocks, O: Opener<B>, N: Namings<Opened>> Kept<B, F, O, N> {
 }
 
 /// Moves the units of an array, and keeps each move that is asked. It takes no memory.
-pub struct Mover<'a, B: Blocks, F: Blocks, O: Opener<B>, N: Namings<Opened>> {
+pub struct Mover<'a, B: Blocks, F: Blocks, O: Opener<B>, N: ArrayNaming<Opened>> {
     units: &'a Units<B, F, O, N>,
     kept: Kept<B, F, O, N>,
 }
 
-impl<B: Blocks, F: Blocks, O: Opener<B>, N: Namings<Opened>> Drop for Mover<'_, B, F, O, N> {
+impl<B: Blocks, F: Blocks, O: Opener<B>, N: ArrayNaming<Opened>> Drop for Mover<'_, B, F, O, N> {
     fn drop(self) {
         let Self { units: _, kept: _ } = self;
     }
 }
 
-impl<'a, B: Blocks, F: Blocks, O: Opener<B>, N: Namings<Opened>> Model for Mover<'a, B, F, O, N> {
+impl<'a, B: Blocks, F: Blocks, O: Opener<B>, N: ArrayNaming<Opened>> Model for Mover<'a, B, F, O, N> {
     ghost use Rattle.failover.specs.Mover.{MoverValue};
 
     ghost Value = { MoverValue };
@@ -121,7 +121,7 @@ impl<'a, B: Blocks, F: Blocks, O: Opener<B>, N: Namings<Opened>> Model for Mover
     ghost view = { λ m. record { unit_count = m.units.now; asked = m.kept } };
 }
 
-impl<'a, B: Blocks, F: Blocks, O: Opener<B>, N: Namings<Opened>> Mover<'a, B, F, O, N> {
+impl<'a, B: Blocks, F: Blocks, O: Opener<B>, N: ArrayNaming<Opened>> Mover<'a, B, F, O, N> {
     /// One by which no move was asked yet.
     pub fn new(units: &'a Units<B, F, O, N>) -> Mover<'a, B, F, O, N>
         ensures unit_count { result.unit_count ≡ units.now }
@@ -134,7 +134,7 @@ impl<'a, B: Blocks, F: Blocks, O: Opener<B>, N: Namings<Opened>> Mover<'a, B, F,
     }
 }
 
-impl<'a, B: Blocks, F: Blocks, O: Opener<B>, N: Namings<Opened>> Moves for Mover<'a, B, F, O, N> {
+impl<'a, B: Blocks, F: Blocks, O: Opener<B>, N: ArrayNaming<Opened>> Moves for Mover<'a, B, F, O, N> {
     ghost use Rattle.unit_entries.specs.Devices.{devices};
     ghost use Rattle.failover.specs.Mover.{IsMoveMade};
 

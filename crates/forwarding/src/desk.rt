@@ -16,7 +16,7 @@ use std::sync::atomic::{AtomicBool, AtomicU64, Ordering};
 use std::sync::{Condvar, Mutex, Wait};
 use thiserror::Error;
 use unit_history::{Opened, Pass, Refused};
-use unit_sequence::Namings;
+use unit_sequence::ArrayNaming;
 
 /// Longer data is not copied for a desk: the worker that it came to serves its command at once, past those that wait.
 pub const LONGEST_COPY: usize = 256;
@@ -47,7 +47,7 @@ type Settled<B, F, O, N> = (
 /// The desk of a controller, by way of which the workers of both controllers' sessions have commands served of the units that
 /// the controller owns: past its queue, or as jobs in it, which the lanes of the controller serve, or the workers that put them
 /// there. What waits stands on a cache line of its own. Contracts see the controller's group.
-pub struct Desk<B: Blocks, F: Blocks, O: Opener<B>, N: Namings<Opened>> {
+pub struct Desk<B: Blocks, F: Blocks, O: Opener<B>, N: ArrayNaming<Opened>> {
     group: Group,
     // Whether the queue is closed, for those who do not ask it.
     is_closed: AtomicBool,
@@ -57,7 +57,7 @@ pub struct Desk<B: Blocks, F: Blocks, O: Opener<B>, N: Namings<Opened>> {
     filled: Condvar,
 }
 
-impl<B: Blocks, F: Blocks, O: Opener<B>, N: Namings<Opened>> Drop for Desk<B, F, O, N> {
+impl<B: Blocks, F: Blocks, O: Opener<B>, N: ArrayNaming<Opened>> Drop for Desk<B, F, O, N> {
     fn drop(self) {
         let Self {
             group: _,
@@ -69,7 +69,7 @@ impl<B: Blocks, F: Blocks, O: Opener<B>, N: Namings<Opened>> Drop for Desk<B, F,
     }
 }
 
-impl<B: Blocks, F: Blocks, O: Opener<B>, N: Namings<Opened>> Model for Desk<B, F, O, N> {
+impl<B: Blocks, F: Blocks, O: Opener<B>, N: ArrayNaming<Opened>> Model for Desk<B, F, O, N> {
     ghost use Rattle.scsi_types.specs.declared.names.Group.{Group};
 
     ghost Value = { Group };
@@ -78,7 +78,7 @@ impl<B: Blocks, F: Blocks, O: Opener<B>, N: Namings<Opened>> Model for Desk<B, F
 }
 
 // Where the ticket's job waits.
-fn index_of<B: Blocks, F: Blocks, O: Opener<B>, N: Namings<Opened>>(
+fn index_of<B: Blocks, F: Blocks, O: Opener<B>, N: ArrayNaming<Opened>>(
     queue: &Queue<Waiting<B, F, O, N>>,
     ticket: &Ticket<'_, B, F, O, N>,
 ) -> Option<usize>
@@ -94,7 +94,7 @@ fn index_of<B: Blocks, F: Blocks, O: Opener<B>, N: Namings<Opened>>(
     None
 }
 
-impl<B: Blocks, F: Blocks, O: Opener<B>, N: Namings<Opened>> Desk<B, F, O, N> {
+impl<B: Blocks, F: Blocks, O: Opener<B>, N: ArrayNaming<Opened>> Desk<B, F, O, N> {
     /// The desk of a group, with 64 places, which are taken now.
     pub fn new(alloc: Global, group: Group) -> Result<Desk<B, F, O, N>, NoMemory>
         ensures { IfOk result (λ desk. desk ≡ group) }

@@ -13,12 +13,12 @@ use std::alloc::Global;
 use std::marker::Model;
 use std::sync::{Arc, Condvar, Mutex, Wait};
 use unit_history::{LegalHistory, Opened, Pass, Refused};
-use unit_sequence::Namings;
+use unit_sequence::ArrayNaming;
 
 // What a command came to. It keeps what the job's pass had seen, and that the pass has since seen what the reply or the refusal
 // says.
 #[derive(Drop)]
-struct Ended<B: Blocks, F: Blocks, O: Opener<B>, N: Namings<Opened>> {
+struct Ended<B: Blocks, F: Blocks, O: Opener<B>, N: ArrayNaming<Opened>> {
     names: Names,
     bytes: Vec<u8>,
     before: LegalHistory<B, F, O, N>,
@@ -26,7 +26,7 @@ struct Ended<B: Blocks, F: Blocks, O: Opener<B>, N: Namings<Opened>> {
     end: Result<Reply, Refused<Group>>,
 }
 
-impl<B: Blocks, F: Blocks, O: Opener<B>, N: Namings<Opened>> Model for Ended<B, F, O, N> {
+impl<B: Blocks, F: Blocks, O: Opener<B>, N: ArrayNaming<Opened>> Model for Ended<B, F, O, N> {
     ghost use Rattle.std.specs.Prelude.{◌≡◌};
     ghost use Rattle.unit_entries.specs.Devices.{devices};
     ghost use Rattle.forwarding.specs.Served.{HasAnsweredJob, handed};
@@ -41,7 +41,7 @@ impl<B: Blocks, F: Blocks, O: Opener<B>, N: Namings<Opened>> Model for Ended<B, 
         e.pass.pass e.end };
 }
 
-impl<B: Blocks, F: Blocks, O: Opener<B>, N: Namings<Opened>> Ended<B, F, O, N> {
+impl<B: Blocks, F: Blocks, O: Opener<B>, N: ArrayNaming<Opened>> Ended<B, F, O, N> {
     // Whether the ticket with these names, whose pass had seen this, waits for it.
     fn is_for(&self, names: &Names, bytes: &[u8], seen: &LegalHistory<B, F, O, N>) -> bool
         ensures { MatchBool result (self.now.job ≡ handed names.now bytes.now seen.now.1) (Unit {0}) }
@@ -59,12 +59,12 @@ impl<B: Blocks, F: Blocks, O: Opener<B>, N: Namings<Opened>> Ended<B, F, O, N> {
 }
 
 // Where an answer comes. It is made when its job is handed in.
-struct Mailbox<B: Blocks, F: Blocks, O: Opener<B>, N: Namings<Opened>> {
+struct Mailbox<B: Blocks, F: Blocks, O: Opener<B>, N: ArrayNaming<Opened>> {
     answer: Mutex<Option<Ended<B, F, O, N>>>,
     filled: Condvar,
 }
 
-impl<B: Blocks, F: Blocks, O: Opener<B>, N: Namings<Opened>> Drop for Mailbox<B, F, O, N> {
+impl<B: Blocks, F: Blocks, O: Opener<B>, N: ArrayNaming<Opened>> Drop for Mailbox<B, F, O, N> {
     fn drop(self) {
         let Self {
             answer: _,
@@ -73,7 +73,7 @@ impl<B: Blocks, F: Blocks, O: Opener<B>, N: Namings<Opened>> Drop for Mailbox<B,
     }
 }
 
-impl<B: Blocks, F: Blocks, O: Opener<B>, N: Namings<Opened>> Mailbox<B, F, O, N> {
+impl<B: Blocks, F: Blocks, O: Opener<B>, N: ArrayNaming<Opened>> Mailbox<B, F, O, N> {
     // A mailbox without an answer, shared by two.
     fn shared(
         alloc: Global,
@@ -101,7 +101,7 @@ impl<B: Blocks, F: Blocks, O: Opener<B>, N: Namings<Opened>> Mailbox<B, F, O, N>
 // A command of a session in a desk's queue: the session's pass and the memory for its reply, which go with it, a copy of the data that
 // came, and the mailbox of its answer.
 #[derive(Drop)]
-pub(crate) struct Waiting<B: Blocks, F: Blocks, O: Opener<B>, N: Namings<Opened>> {
+pub(crate) struct Waiting<B: Blocks, F: Blocks, O: Opener<B>, N: ArrayNaming<Opened>> {
     pub(crate) pass: Pass<B, F, O, N>,
     pub(crate) room: ReplyMemory,
     asked: Asked,
@@ -110,12 +110,12 @@ pub(crate) struct Waiting<B: Blocks, F: Blocks, O: Opener<B>, N: Namings<Opened>
 }
 
 /// A job that was taken from the desk of a group. Contracts see what it is known by, its data, and what its pass has seen.
-pub struct Job<B: Blocks, F: Blocks, O: Opener<B>, N: Namings<Opened>> {
+pub struct Job<B: Blocks, F: Blocks, O: Opener<B>, N: ArrayNaming<Opened>> {
     waiting: Waiting<B, F, O, N>,
     by_group: Group,
 }
 
-impl<B: Blocks, F: Blocks, O: Opener<B>, N: Namings<Opened>> Drop for Job<B, F, O, N> {
+impl<B: Blocks, F: Blocks, O: Opener<B>, N: ArrayNaming<Opened>> Drop for Job<B, F, O, N> {
     fn drop(self) {
         let Self {
             waiting: _,
@@ -124,7 +124,7 @@ impl<B: Blocks, F: Blocks, O: Opener<B>, N: Namings<Opened>> Drop for Job<B, F, 
     }
 }
 
-impl<B: Blocks, F: Blocks, O: Opener<B>, N: Namings<Opened>> Model for Job<B, F, O, N> {
+impl<B: Blocks, F: Blocks, O: Opener<B>, N: ArrayNaming<Opened>> Model for Job<B, F, O, N> {
     ghost use Rattle.forwarding.specs.Served.{Handed, handed_of};
 
     ghost Value = { Handed };
@@ -132,7 +132,7 @@ impl<B: Blocks, F: Blocks, O: Opener<B>, N: Namings<Opened>> Model for Job<B, F,
     ghost view = { λ j. handed_of j.waiting.pass j.waiting.asked j.waiting.bytes.items j.by_group };
 }
 
-impl<B: Blocks, F: Blocks, O: Opener<B>, N: Namings<Opened>> Job<B, F, O, N> {
+impl<B: Blocks, F: Blocks, O: Opener<B>, N: ArrayNaming<Opened>> Job<B, F, O, N> {
     // What waited at the desk of this group.
     pub(crate) fn from_desk(waiting: Waiting<B, F, O, N>, by_group: Group) -> Job<B, F, O, N>
         ensures { result ≡ handed_of waiting.pass waiting.asked waiting.bytes.items by_group }
@@ -177,12 +177,12 @@ impl<B: Blocks, F: Blocks, O: Opener<B>, N: Namings<Opened>> Job<B, F, O, N> {
 }
 
 /// What a job came to, with the mailbox that it goes to. Contracts see the job, what its pass has seen since, and the end.
-pub struct Answer<B: Blocks, F: Blocks, O: Opener<B>, N: Namings<Opened>> {
+pub struct Answer<B: Blocks, F: Blocks, O: Opener<B>, N: ArrayNaming<Opened>> {
     ended: Ended<B, F, O, N>,
     mailbox: Arc<Mailbox<B, F, O, N>, Global>,
 }
 
-impl<B: Blocks, F: Blocks, O: Opener<B>, N: Namings<Opened>> Drop for Answer<B, F, O, N> {
+impl<B: Blocks, F: Blocks, O: Opener<B>, N: ArrayNaming<Opened>> Drop for Answer<B, F, O, N> {
     fn drop(self) {
         let Self {
             ended: _,
@@ -191,7 +191,7 @@ impl<B: Blocks, F: Blocks, O: Opener<B>, N: Namings<Opened>> Drop for Answer<B, 
     }
 }
 
-impl<B: Blocks, F: Blocks, O: Opener<B>, N: Namings<Opened>> Model for Answer<B, F, O, N> {
+impl<B: Blocks, F: Blocks, O: Opener<B>, N: ArrayNaming<Opened>> Model for Answer<B, F, O, N> {
     ghost use Rattle.forwarding.specs.Jobs.{Done};
 
     ghost Value = { Done };
@@ -199,7 +199,7 @@ impl<B: Blocks, F: Blocks, O: Opener<B>, N: Namings<Opened>> Model for Answer<B,
     ghost view = { λ a. a.ended };
 }
 
-impl<B: Blocks, F: Blocks, O: Opener<B>, N: Namings<Opened>> Answer<B, F, O, N> {
+impl<B: Blocks, F: Blocks, O: Opener<B>, N: ArrayNaming<Opened>> Answer<B, F, O, N> {
     // Puts it where its ticket waits. It takes no memory.
     pub(crate) fn post<W: Wait>(self, rt: &W) {
         let Answer { ended, mailbox } = self;
@@ -210,14 +210,14 @@ impl<B: Blocks, F: Blocks, O: Opener<B>, N: Namings<Opened>> Answer<B, F, O, N> 
 
 /// What is left to the worker that handed a job in, with the data that it came with. Contracts see what the job is known by, its
 /// data, and what its pass had seen.
-pub struct Ticket<'a, B: Blocks, F: Blocks, O: Opener<B>, N: Namings<Opened>> {
+pub struct Ticket<'a, B: Blocks, F: Blocks, O: Opener<B>, N: ArrayNaming<Opened>> {
     names: Names,
     bytes: &'a [u8],
     seen: LegalHistory<B, F, O, N>,
     mailbox: Arc<Mailbox<B, F, O, N>, Global>,
 }
 
-impl<B: Blocks, F: Blocks, O: Opener<B>, N: Namings<Opened>> Drop for Ticket<'_, B, F, O, N> {
+impl<B: Blocks, F: Blocks, O: Opener<B>, N: ArrayNaming<Opened>> Drop for Ticket<'_, B, F, O, N> {
     fn drop(self) {
         let Self {
             names: _,
@@ -228,7 +228,7 @@ impl<B: Blocks, F: Blocks, O: Opener<B>, N: Namings<Opened>> Drop for Ticket<'_,
     }
 }
 
-impl<'a, B: Blocks, F: Blocks, O: Opener<B>, N: Namings<Opened>> Model for Ticket<'a, B, F, O, N> {
+impl<'a, B: Blocks, F: Blocks, O: Opener<B>, N: ArrayNaming<Opened>> Model for Ticket<'a, B, F, O, N> {
     ghost use Rattle.std.specs.Prelude.{◌≡◌};
     ghost use Rattle.forwarding.specs.Served.{Handed, handed};
 
@@ -240,7 +240,7 @@ impl<'a, B: Blocks, F: Blocks, O: Opener<B>, N: Namings<Opened>> Model for Ticke
 }
 
 // Whether the answer that a ticket waits for is there.
-fn is_for<B: Blocks, F: Blocks, O: Opener<B>, N: Namings<Opened>>(
+fn is_for<B: Blocks, F: Blocks, O: Opener<B>, N: ArrayNaming<Opened>>(
     held: &Option<Ended<B, F, O, N>>,
     names: &Names,
     bytes: &[u8],
@@ -254,7 +254,7 @@ fn is_for<B: Blocks, F: Blocks, O: Opener<B>, N: Namings<Opened>>(
     }
 }
 
-impl<'a, B: Blocks, F: Blocks, O: Opener<B>, N: Namings<Opened>> Ticket<'a, B, F, O, N> {
+impl<'a, B: Blocks, F: Blocks, O: Opener<B>, N: ArrayNaming<Opened>> Ticket<'a, B, F, O, N> {
     /// The place of its job's unit.
     pub fn place(&self) -> usize
         ensures { result ≡ self.now.names.place }
@@ -316,7 +316,7 @@ impl<'a, B: Blocks, F: Blocks, O: Opener<B>, N: Namings<Opened>> Ticket<'a, B, F
 
 // A command of a session that is to wait at the desk of a group, and its ticket: the job that waits is the ticket's. Refused, there
 // was no memory, and the pass is handed back, with the memory for the reply.
-pub(crate) fn prepare<'a, B: Blocks, F: Blocks, O: Opener<B>, N: Namings<Opened>>(
+pub(crate) fn prepare<'a, B: Blocks, F: Blocks, O: Opener<B>, N: ArrayNaming<Opened>>(
     room: ReplyMemory,
     pass: Pass<B, F, O, N>,
     asked: &Asked,

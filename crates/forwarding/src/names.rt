@@ -10,10 +10,10 @@ use desk_jobs::Names;
 use scsi_types::{Asked, Group, Reply};
 use std::sync::Wait;
 use unit_history::{Opened, Pass, Refused};
-use unit_sequence::Namings;
+use unit_sequence::ArrayNaming;
 
 /// What a command of the session with this pass is known by at the desk of a group.
-pub(crate) fn named<B: Blocks, F: Blocks, O: Opener<B>, N: Namings<Opened>>(
+pub(crate) fn named<B: Blocks, F: Blocks, O: Opener<B>, N: ArrayNaming<Opened>>(
     pass: &Pass<B, F, O, N>,
     asked: &Asked,
     by_group: Group,
@@ -30,7 +30,7 @@ pub(crate) fn named<B: Blocks, F: Blocks, O: Opener<B>, N: Namings<Opened>>(
 }
 
 /// Whether they are of the next command of the session with this pass.
-pub(crate) fn are_of<B: Blocks, F: Blocks, O: Opener<B>, N: Namings<Opened>>(
+pub(crate) fn are_of<B: Blocks, F: Blocks, O: Opener<B>, N: ArrayNaming<Opened>>(
     names: &Names,
     pass: &Pass<B, F, O, N>,
 ) -> bool
@@ -40,7 +40,7 @@ pub(crate) fn are_of<B: Blocks, F: Blocks, O: Opener<B>, N: Namings<Opened>>(
 }
 
 /// Serves the command, with its session's pass and the data that came for it, as [`Units::serve`].
-pub(crate) fn serve_named<B: Blocks, F: Blocks, O: Opener<B>, N: Namings<Opened>, W: Wait>(
+pub(crate) fn serve_named<B: Blocks, F: Blocks, O: Opener<B>, N: ArrayNaming<Opened>, W: Wait>(
     names: &Names,
     rt: &W,
     room: ReplyMemory,

@@ -4,7 +4,7 @@ use crossbeam_utils::atomic::seq_cell::{Pass, RuledSeqCell};
 use crossbeam_utils::rule::{Outcome, Protocol};
 use std::collections::LinkedList;
 use std::marker::{Brand, PhantomData};
-use unit_sequence::{At, Namings};
+use unit_sequence::{ArrayNaming, At};
 
 /// The words of a row.
 pub type Words = [u64; 7];
@@ -48,7 +48,7 @@ pub trait Origin<S> {
     ghost from: { S };
 }
 
-impl<S, N: Namings<S>, const U: usize> Origin<S> for At<S, N, U> {
+impl<S, N: ArrayNaming<S>, const U: usize> Origin<S> for At<S, N, U> {
     ghost table = { N.table U };
 
     ghost from = { N.opening U };

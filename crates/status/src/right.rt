@@ -3,7 +3,7 @@ ghost use Rattle.std.specs.Prelude.{◌≡◌};
 
 use crate::law::{Origin, Token};
 use std::marker::{Model, PhantomData};
-use unit_sequence::{At, Namings};
+use unit_sequence::{ArrayNaming, At};
 
 /// The one right to add the entries of a session. It has counted them. It takes no memory, and stays when the session ends.
 #[derive(Drop)]
@@ -27,13 +27,13 @@ impl<E, S, J: Origin<S>> Model for SessionRight<E, S, J> {
 
 /// The right of a session of the unit at a place that is known when it runs.
 #[derive(Drop)]
-pub struct AnySessionRight<E, S, N: Namings<S>> {
+pub struct AnySessionRight<E, S, N: ArrayNaming<S>> {
     place: usize,
     token: Token<E, S>,
     of: PhantomData<N>,
 }
 
-impl<E, S, N: Namings<S>> Model for AnySessionRight<E, S, N> {
+impl<E, S, N: ArrayNaming<S>> Model for AnySessionRight<E, S, N> {
     ghost use Rattle.std.specs.Prelude.{◌≡◌, []};
     ghost use Rattle.crossbeam_utils.specs.Seq.{cell_view};
     ghost use Rattle.status.specs.Views.{PlacedClaim, claim_of, right};
@@ -46,7 +46,7 @@ impl<E, S, N: Namings<S>> Model for AnySessionRight<E, S, N> {
         × (cell_view r.token ≡ right (claim_of (cell_view r.token))) };
 }
 
-impl<E, S, N: Namings<S>> AnySessionRight<E, S, N> {
+impl<E, S, N: ArrayNaming<S>> AnySessionRight<E, S, N> {
     /// As a right at the unit of its place.
     pub fn at<const U: usize>(self) -> SessionRight<E, S, At<S, N, U>>
         requires { self.place ≡ U }

@@ -17,7 +17,7 @@ use std::test::Fail;
 use std::time::Clock;
 use test_memory::new_unit;
 use unit_history::{NewUnit, Opened};
-use unit_sequence::Namings;
+use unit_sequence::ArrayNaming;
 
 /// A unit whose device passes one call on, and fails each one after it.
 type Once = NewUnit<FusedBlocks<MemBlocks>, MemBlocks, KeepOpener>;
@@ -34,7 +34,7 @@ fn two(alloc: Global) -> Result<Vec<Once>, Fail> {
     Ok(new)
 }
 
-fn quit<B: Blocks, F: Blocks, O: Opener<B>, N: Namings<Opened>, R: Wait + Clock>(
+fn quit<B: Blocks, F: Blocks, O: Opener<B>, N: ArrayNaming<Opened>, R: Wait + Clock>(
     rt: &R,
     alloc: Global,
     controllers: &Controllers<B, F, O, N>,
@@ -50,7 +50,7 @@ fn quit<B: Blocks, F: Blocks, O: Opener<B>, N: Namings<Opened>, R: Wait + Clock>
 }
 
 // Behind it no desk has a job any more, where an open one would wait for the next. Each unit was flushed: of each the next flush fails.
-fn are_left<B: Blocks, F: Blocks, O: Opener<B>, N: Namings<Opened>, R: Wait + Clock + Abort>(
+fn are_left<B: Blocks, F: Blocks, O: Opener<B>, N: ArrayNaming<Opened>, R: Wait + Clock + Abort>(
     rt: &R,
     alloc: Global,
     new: Vec<NewUnit<B, F, O>>,

@@ -17,7 +17,7 @@ use std::sync::Wait;
 use std::test::Fail;
 use std::thread::Threads;
 use unit_history::{NewUnit, Opened, Pass, Refused};
-use unit_sequence::Namings;
+use unit_sequence::ArrayNaming;
 use unit_state::MoveFault;
 
 fn end_of(reply: &Reply) -> End {
@@ -63,7 +63,7 @@ fn stays(why: MoveFault) -> &'static str {
 
 /// Units that threads share, whose registration files lie in memory, and the desk of their first controller.
 #[derive(Drop)]
-struct Shared<W: Wait + Drop, B: Blocks, O: Opener<B>, N: Namings<Opened>> {
+struct Shared<W: Wait + Drop, B: Blocks, O: Opener<B>, N: ArrayNaming<Opened>> {
     rt: W,
     alloc: Global,
     units: Units<B, MemBlocks, O, N>,
@@ -82,13 +82,13 @@ fn room(alloc: Global) -> ReplyMemory {
 
 /// The session of a host at one of them: its pass, the ticket of its command that waits at the desk, and the data of the last reply.
 #[derive(Drop)]
-struct Host<B: Blocks, O: Opener<B>, N: Namings<Opened>> {
+struct Host<B: Blocks, O: Opener<B>, N: ArrayNaming<Opened>> {
     pass: Option<Pass<B, MemBlocks, O, N>>,
     ticket: Option<Ticket<'static, B, MemBlocks, O, N>>,
     data: Vec<u8>,
 }
 
-impl<B: Blocks, O: Opener<B>, N: Namings<Opened>> Host<B, O, N> {
+impl<B: Blocks, O: Opener<B>, N: ArrayNaming<Opened>> Host<B, O, N> {
     // Keeps the pass, and the reply, which is told in short.
     fn keep(&mut self, pass: Pass<B, MemBlocks, O, N>, end: Result<Reply, Refused<Group>>) -> End {
         self.pass = Some(pass);
@@ -106,7 +106,7 @@ impl<B: Blocks, O: Opener<B>, N: Namings<Opened>> Host<B, O, N> {
     }
 }
 
-impl<W: Wait + Drop, B: Blocks, O: Opener<B>, N: Namings<Opened>> Shared<W, B, O, N> {
+impl<W: Wait + Drop, B: Blocks, O: Opener<B>, N: ArrayNaming<Opened>> Shared<W, B, O, N> {
     // Takes the pass of a host, where it has one, of a unit that there is.
     fn pass_of(&self, host: &mut Host<B, O, N>) -> Option<Pass<B, MemBlocks, O, N>>
         ensures { IfSome result (λ pass. pass.place < self.now.units) }
@@ -120,7 +120,7 @@ impl<W: Wait + Drop, B: Blocks, O: Opener<B>, N: Namings<Opened>> Shared<W, B, O
     }
 }
 
-impl<W: Wait + Drop, B: Blocks, O: Opener<B>, N: Namings<Opened>> Array<Host<B, O, N>>
+impl<W: Wait + Drop, B: Blocks, O: Opener<B>, N: ArrayNaming<Opened>> Array<Host<B, O, N>>
     for Shared<W, B, O, N> {
     fn attach(&self, place: usize, isid: u32, group: Group) -> Option<Host<B, O, N>> {
         if place >= self.units.count() {
@@ -286,7 +286,7 @@ impl<W: Wait + Drop, B: Blocks, O: Opener<B>, N: Namings<Opened>> Array<Host<B, 
 
 /// Shares these units, and tells a tale of them.
 pub fn tell<
-    N: Namings<Opened> + Send + Sync,
+    N: ArrayNaming<Opened> + Send + Sync,
     B: Blocks + Send + Sync,
     O: Opener<B> + Send + Sync,
     W: Threads + Wait + Clone + Send + Sync + Drop,

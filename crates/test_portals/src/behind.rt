@@ -11,7 +11,7 @@ use std::sync::{Mutex, Wait};
 use std::test::Fail;
 use std::time::Clock;
 use unit_history::Opened;
-use unit_sequence::Namings;
+use unit_sequence::ArrayNaming;
 
 /// What a script asks of an array, but not through its portals.
 pub trait Console {
@@ -30,13 +30,13 @@ pub trait Console {
 
 /// The controllers of an array, and its sessions.
 #[derive(Drop)]
-pub struct Behind<'a, R: Wait, B: Blocks, F: Blocks, O: Opener<B>, N: Namings<Opened>> {
+pub struct Behind<'a, R: Wait, B: Blocks, F: Blocks, O: Opener<B>, N: ArrayNaming<Opened>> {
     pub rt: &'a R,
     pub controllers: &'a Controllers<B, F, O, N>,
     pub sessions: &'a Mutex<Table<Socket>>,
 }
 
-impl<R: Wait + Clock, B: Blocks, F: Blocks, O: Opener<B>, N: Namings<Opened>> Console
+impl<R: Wait + Clock, B: Blocks, F: Blocks, O: Opener<B>, N: ArrayNaming<Opened>> Console
     for Behind<'_, R, B, F, O, N> {
     fn entries(&self, unit: u8) -> Option<u64> {
         let units = self.controllers.units();

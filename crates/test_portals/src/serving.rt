@@ -27,7 +27,7 @@ use std::time::Clock;
 use test_connections::Host;
 use test_memory::Latch;
 use unit_history::{NewUnit, Opened};
-use unit_sequence::Namings;
+use unit_sequence::ArrayNaming;
 
 /// What the hosts of an array do, of one unit or of two, and where it listens: at this address, and at these ports of its two
 /// controllers. So many connections to each find no thread. Its portals may be hasty: where no connection waits, an accept fails. The
@@ -123,7 +123,7 @@ fn bind<R: Abort + Net<Listener = TcpListener, Stream = TcpStream>>(
 
 // Serves a portal of a group, whose controller has its lanes.
 fn serve<
-    N: Namings<Opened> + Send + Sync + 'static,
+    N: ArrayNaming<Opened> + Send + Sync + 'static,
     B: Blocks + Send + Sync + 'static,
     F: Blocks + Send + Sync + 'static,
     O: Opener<B> + Send + Sync + 'static,
@@ -171,7 +171,7 @@ fn performed<R: Abort + Eprint, S: Scene>(
 }
 
 // What serves these units, behind a gate at which nothing hangs yet, at these portals.
-fn server_of<N: Namings<Opened>, B: Blocks, F: Blocks, O: Opener<B>, R>(
+fn server_of<N: ArrayNaming<Opened>, B: Blocks, F: Blocks, O: Opener<B>, R>(
     rt: &R,
     alloc: Global,
     new: Vec<NewUnit<B, F, O>>,
@@ -208,7 +208,7 @@ fn gate<R: Wait + Abort + Clone + Drop>(rt: &R) -> Doors<R> {
 
 // Hosts perform a script before these portals: the hosts.
 fn performed_before<
-    N: Namings<Opened>,
+    N: ArrayNaming<Opened>,
     B: Blocks,
     F: Blocks,
     O: Opener<B>,
@@ -274,7 +274,7 @@ impl<
     /// Serves these units, whose devices may hang at this latch, while hosts perform a script: the ports, and the hosts, whose
     /// sessions may still be open.
     pub fn perform<
-        N: Namings<Opened> + Send + Sync + 'static,
+        N: ArrayNaming<Opened> + Send + Sync + 'static,
         B: Blocks + Send + Sync + 'static,
         F: Blocks + Send + Sync + 'static,
         O: Opener<B> + Send + Sync + 'static,

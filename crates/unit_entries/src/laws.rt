@@ -6,7 +6,7 @@ ghost use Rattle.unit_entries.specs.Histories.{IsBehind, IsHistory};
 
 use crate::entry::Opened;
 use block_file::{Blocks, Opener};
-use unit_sequence::Namings;
+use unit_sequence::ArrayNaming;
 use unit_state::Unit;
 
 /// A unit of which nothing was asked yet is what the history without an entry leaves.
@@ -14,7 +14,7 @@ pub fn a_unit_that_opened_has_the_history_without_an_entry<
     B: Blocks,
     F: Blocks,
     O: Opener<B>,
-    N: Namings<Opened>,
+    N: ArrayNaming<Opened>,
     const U: usize,
 >(unit: &Unit<B, F, O>)
     requires state { N.opening U ≡ state_of B.contents unit.now }

@@ -10,7 +10,7 @@ use scsi_types::{Asked, Group, Reply};
 use status::{Published, Row};
 use std::marker::Brand;
 use unit_lock::{Machine, Refused};
-use unit_sequence::Namings;
+use unit_sequence::ArrayNaming;
 use unit_state::{MoveFault, StepEnd, Unit};
 
 impl<B: Blocks, F: Blocks, O: Opener<B>> Published<Noted, Opened> for Unit<B, F, O> {
@@ -27,7 +27,7 @@ impl<B: Blocks, F: Blocks, O: Opener<B>> Published<Noted, Opened> for Unit<B, F,
     ghost command = { command };
 }
 
-impl Namings<Opened> for Brand {
+impl ArrayNaming<Opened> for Brand {
     ghost use Rattle.unit_sequence.specs.Rights.{no_book, no_table};
     ghost use Rattle.unit_entries.specs.Histories.{no_state};
 

@@ -17,7 +17,7 @@ use std::sync::Wait;
 use unit_entries::laws::a_unit_that_opened_has_the_history_without_an_entry;
 use unit_entries::{Arrival, Noted, Opened};
 use unit_lock::{LegalHistory as Seen, Pass as SessionPass, Refused};
-use unit_sequence::{At, Namings};
+use unit_sequence::{ArrayNaming, At};
 use unit_state::{MoveFault, Unit};
 
 /// A session of a unit: what it has seen of the unit's history, and the one right to add the session's entries. Contracts see
@@ -45,7 +45,7 @@ pub type Seat<B, F, O, N, const U: usize> = BoardSeat<
 
 /// The unit at a place of an array, which all threads share: each call of any session is one step of it, at one point of one
 /// history.
-pub struct SharedUnit<B: Blocks, F: Blocks, O: Opener<B>, N: Namings<Opened>, const U: usize> {
+pub struct SharedUnit<B: Blocks, F: Blocks, O: Opener<B>, N: ArrayNaming<Opened>, const U: usize> {
     unit: unit_lock::LockedUnit<Noted, Opened, Unit<B, F, O>, N, U>,
 }
 
@@ -53,7 +53,7 @@ impl<
     B: Blocks + Drop,
     F: Blocks + Drop,
     O: Opener<B> + Drop,
-    N: Namings<Opened>,
+    N: ArrayNaming<Opened>,
     const U: usize,
 > Drop for SharedUnit<B, F, O, N, U> {
     fn drop(self) {
@@ -61,7 +61,7 @@ impl<
     }
 }
 
-impl<B: Blocks, F: Blocks, O: Opener<B>, N: Namings<Opened>, const U: usize> SharedUnit<
+impl<B: Blocks, F: Blocks, O: Opener<B>, N: ArrayNaming<Opened>, const U: usize> SharedUnit<
     B,
     F,
     O,

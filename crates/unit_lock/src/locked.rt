@@ -10,18 +10,18 @@ use crate::visit::Visit;
 use std::alloc::Global;
 use std::marker::Model;
 use std::sync::Wait;
-use unit_sequence::{At, History, Namings};
+use unit_sequence::{ArrayNaming, At, History};
 
 /// The unit, which is what its history leaves, and all that is needed to add an entry to that. A call takes the records out
 /// and puts them back. Contracts see the history.
 #[derive(Drop)]
-pub(crate) struct Locked<E, S, X: Machine<E, S>, N: Namings<S>, const U: usize> {
+pub(crate) struct Locked<E, S, X: Machine<E, S>, N: ArrayNaming<S>, const U: usize> {
     // On the heap, so that all that stands round it has a size of its own.
     object: Box<X, Global>,
     records: Option<Records<E, S, X, At<S, N, U>>>,
 }
 
-impl<E, S, X: Machine<E, S>, N: Namings<S>, const U: usize> Model for Locked<E, S, X, N, U> {
+impl<E, S, X: Machine<E, S>, N: ArrayNaming<S>, const U: usize> Model for Locked<E, S, X, N, U> {
     ghost use Rattle.std.specs.Prelude.{List, IsSome};
     ghost use Rattle.unit_lock.specs.Calls.{held};
 
@@ -33,7 +33,7 @@ impl<E, S, X: Machine<E, S>, N: Namings<S>, const U: usize> Model for Locked<E, 
         × X.after (N.opening U) (held l.records) l.object.value };
 }
 
-impl<E, S, X: Machine<E, S>, N: Namings<S>, const U: usize> Locked<E, S, X, N, U> {
+impl<E, S, X: Machine<E, S>, N: ArrayNaming<S>, const U: usize> Locked<E, S, X, N, U> {
     /// A unit of which nothing was asked yet.
     pub(crate) fn new(
         object: Box<X, Global>,

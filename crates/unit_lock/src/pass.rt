@@ -5,16 +5,16 @@ ghost use Rattle.status.specs.Views.{counted};
 
 use status::{AnySessionRight, Published, SessionRight};
 use std::marker::{Model, PhantomData};
-use unit_sequence::{AnyHistory, At, History, Namings};
+use unit_sequence::{AnyHistory, ArrayNaming, At, History};
 
 /// A legal history that was seen of the unit at a place. Contracts see the place and the entries.
 #[derive(Drop)]
-pub struct LegalHistory<E, S, P: Published<E, S>, N: Namings<S>> {
+pub struct LegalHistory<E, S, P: Published<E, S>, N: ArrayNaming<S>> {
     seen: AnyHistory<E, S, N>,
     of: PhantomData<P>,
 }
 
-impl<E, S, P: Published<E, S>, N: Namings<S>> Model for LegalHistory<E, S, P, N> {
+impl<E, S, P: Published<E, S>, N: ArrayNaming<S>> Model for LegalHistory<E, S, P, N> {
     ghost use Rattle.std.specs.Prelude.{ℕ, List};
 
     ghost Value = { ℕ × List E };
@@ -24,7 +24,7 @@ impl<E, S, P: Published<E, S>, N: Namings<S>> Model for LegalHistory<E, S, P, N>
     ghost invariant = { λ h. P.legal (N.opening h.seen.0) h.seen.1 };
 }
 
-impl<E, S, P: Published<E, S>, N: Namings<S>> LegalHistory<E, S, P, N> {
+impl<E, S, P: Published<E, S>, N: ArrayNaming<S>> LegalHistory<E, S, P, N> {
     /// A history of the unit at a place that its type names.
     pub(crate) fn of<const U: usize>(seen: History<E, At<S, N, U>>) -> LegalHistory<E, S, P, N>
         requires { P.legal (N.opening U) seen }
@@ -81,7 +81,7 @@ impl<E, S, P: Published<E, S>, N: Namings<S>> LegalHistory<E, S, P, N> {
 /// A session of one unit: what it has seen, and the one right to add its entries. Contracts see the session's number, the
 /// serial of its next command, and the history that it has seen.
 #[derive(Drop)]
-pub struct PassAt<E, S, P: Published<E, S>, N: Namings<S>, const U: usize> {
+pub struct PassAt<E, S, P: Published<E, S>, N: ArrayNaming<S>, const U: usize> {
     pub(crate) session: u64,
     pub(crate) serial: u64,
     pub(crate) seen: History<E, At<S, N, U>>,
@@ -89,7 +89,7 @@ pub struct PassAt<E, S, P: Published<E, S>, N: Namings<S>, const U: usize> {
     pub(crate) of: PhantomData<P>,
 }
 
-impl<E, S, P: Published<E, S>, N: Namings<S>, const U: usize> Model for PassAt<E, S, P, N, U> {
+impl<E, S, P: Published<E, S>, N: ArrayNaming<S>, const U: usize> Model for PassAt<E, S, P, N, U> {
     ghost use Rattle.std.specs.Prelude.{◌≡◌, ◌≤◌, ◌+◌};
     ghost use Rattle.status.specs.Views.{counted};
     ghost use Rattle.unit_lock.specs.Calls.{Known};
@@ -102,7 +102,7 @@ impl<E, S, P: Published<E, S>, N: Namings<S>, const U: usize> Model for PassAt<E
         × (p.right.count ≤ counted P.own p.session p.seen) × P.legal (N.opening U) p.seen };
 }
 
-impl<E, S, P: Published<E, S>, N: Namings<S>, const U: usize> PassAt<E, S, P, N, U> {
+impl<E, S, P: Published<E, S>, N: ArrayNaming<S>, const U: usize> PassAt<E, S, P, N, U> {
     /// A session with this right, which has counted none of its own entries but those that were seen, and all its commands.
     pub(crate) fn new(
         session: u64,
@@ -135,7 +135,7 @@ impl<E, S, P: Published<E, S>, N: Namings<S>, const U: usize> PassAt<E, S, P, N,
 
 /// A session of the unit at a place that is known when it runs. Contracts see the place beside the rest.
 #[derive(Drop)]
-pub struct Pass<E, S, P: Published<E, S>, N: Namings<S>> {
+pub struct Pass<E, S, P: Published<E, S>, N: ArrayNaming<S>> {
     session: u64,
     serial: u64,
     seen: AnyHistory<E, S, N>,
@@ -143,7 +143,7 @@ pub struct Pass<E, S, P: Published<E, S>, N: Namings<S>> {
     of: PhantomData<P>,
 }
 
-impl<E, S, P: Published<E, S>, N: Namings<S>> Model for Pass<E, S, P, N> {
+impl<E, S, P: Published<E, S>, N: ArrayNaming<S>> Model for Pass<E, S, P, N> {
     ghost use Rattle.std.specs.Prelude.{◌≡◌, ◌≤◌, ◌+◌};
     ghost use Rattle.status.specs.Views.{counted};
     ghost use Rattle.unit_lock.specs.Calls.{PlacedPass};
@@ -157,7 +157,7 @@ impl<E, S, P: Published<E, S>, N: Namings<S>> Model for Pass<E, S, P, N> {
         × (p.right.claim.count ≤ counted P.own p.session p.seen.1) × P.legal (N.opening p.seen.0) p.seen.1 };
 }
 
-impl<E, S, P: Published<E, S>, N: Namings<S>> Pass<E, S, P, N> {
+impl<E, S, P: Published<E, S>, N: ArrayNaming<S>> Pass<E, S, P, N> {
     /// The place of its unit.
     pub fn place(&self) -> usize
         ensures place { result ≡ self.now.place }
@@ -241,7 +241,7 @@ impl<E, S, P: Published<E, S>, N: Namings<S>> Pass<E, S, P, N> {
 
 /// Each of two sessions has then seen what either had: one legal history. It waits for nobody.
 #[tactic(auto, using(crate::proofs::Seen::counted_prefix))]
-pub fn merge_seen<E, S, P: Published<E, S>, N: Namings<S>, const U: usize>(
+pub fn merge_seen<E, S, P: Published<E, S>, N: ArrayNaming<S>, const U: usize>(
     one: PassAt<E, S, P, N, U>,
     two: PassAt<E, S, P, N, U>,
 ) -> (PassAt<E, S, P, N, U>, PassAt<E, S, P, N, U>)

@@ -11,7 +11,7 @@ use crossbeam_utils::{Backoff, CachePadded};
 use status::{Board, MOST_SEATS, NewBoard, Published, Seat};
 use std::alloc::{AllocError, Global};
 use std::sync::{Mutex, MutexGuard, Wait};
-use unit_sequence::{At, Namings, NewHistory};
+use unit_sequence::{ArrayNaming, At, NewHistory};
 
 /// The word and the board of a unit, before they have names.
 #[derive(Drop)]
@@ -32,12 +32,12 @@ impl<E, S, P: Published<E, S>> NewLocked<E, S, P> {
 
 /// One unit of an array, at the place that its type names: under its lock the unit, outside of it the word that counts its
 /// history, and its board.
-pub struct LockedUnit<E, S, X: Machine<E, S>, N: Namings<S>, const U: usize> {
+pub struct LockedUnit<E, S, X: Machine<E, S>, N: ArrayNaming<S>, const U: usize> {
     posted: Posted<E, S, X, At<S, N, U>>,
     locked: CachePadded<Mutex<Locked<E, S, X, N, U>>>,
 }
 
-impl<E, S, X: Machine<E, S> + Drop, N: Namings<S>, const U: usize> Drop
+impl<E, S, X: Machine<E, S> + Drop, N: ArrayNaming<S>, const U: usize> Drop
     for LockedUnit<E, S, X, N, U> {
     fn drop(self) {
         let Self {
@@ -54,7 +54,7 @@ const LOOKS: usize = 64;
 /// How often one looks for it that waits for nobody.
 const TRIES: usize = 1000;
 
-impl<E, S, X: Machine<E, S>, N: Namings<S>, const U: usize> LockedUnit<E, S, X, N, U> {
+impl<E, S, X: Machine<E, S>, N: ArrayNaming<S>, const U: usize> LockedUnit<E, S, X, N, U> {
     /// A unit of which nothing was asked yet, and so many readers' seats at its board.
     pub fn new<R: Wait>(
         rt: &R,

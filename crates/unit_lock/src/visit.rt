@@ -12,12 +12,12 @@ use logbook::Plain;
 use status::{Holder, Published, Row};
 use std::marker::Model;
 use std::sync::Wait;
-use unit_sequence::{Answer, At, History, Namings, Recorder};
+use unit_sequence::{Answer, ArrayNaming, At, History, Recorder};
 
 /// A session's pass, whose right is in hand, beside the whole history: nothing of the session's own came since what its pass
 /// has seen. Contracts see the pass and the history.
 #[derive(Drop)]
-pub(crate) struct Visit<E, S, P: Published<E, S>, N: Namings<S>, const U: usize> {
+pub(crate) struct Visit<E, S, P: Published<E, S>, N: ArrayNaming<S>, const U: usize> {
     session: u64,
     serial: u64,
     seen: History<E, At<S, N, U>>,
@@ -25,7 +25,7 @@ pub(crate) struct Visit<E, S, P: Published<E, S>, N: Namings<S>, const U: usize>
     holder: Holder<E, S, P, At<S, N, U>>,
 }
 
-impl<E, S, P: Published<E, S>, N: Namings<S>, const U: usize> Model for Visit<E, S, P, N, U> {
+impl<E, S, P: Published<E, S>, N: ArrayNaming<S>, const U: usize> Model for Visit<E, S, P, N, U> {
     ghost use Rattle.std.specs.Prelude.{◌≡◌, ◌≤◌, ◌+◌};
     ghost use mathlib.Core.List.{IsPrefix};
     ghost use Rattle.status.specs.Views.{counted};
@@ -40,7 +40,7 @@ impl<E, S, P: Published<E, S>, N: Namings<S>, const U: usize> Model for Visit<E,
         × (counted P.own v.session v.recorder ≡ v.holder.claim.count) × IsPrefix v.seen v.recorder };
 }
 
-impl<E, S, X: Machine<E, S>, N: Namings<S>, const U: usize> Visit<E, S, X, N, U> {
+impl<E, S, X: Machine<E, S>, N: ArrayNaming<S>, const U: usize> Visit<E, S, X, N, U> {
     /// Takes the records out of their place, and the right of a pass in hand; and finds that what the pass has seen begins the
     /// history, that nothing of the session's own came since, and that the pass's serial is that behind the session's commands.
     pub(crate) fn begin<R: Wait>(
@@ -78,7 +78,7 @@ impl<E, S, X: Machine<E, S>, N: Namings<S>, const U: usize> Visit<E, S, X, N, U>
     }
 }
 
-impl<E, S, P: Published<E, S>, N: Namings<S>, const U: usize> Visit<E, S, P, N, U> {
+impl<E, S, P: Published<E, S>, N: ArrayNaming<S>, const U: usize> Visit<E, S, P, N, U> {
     /// Adds an entry of the session's own, after which it has this serial, puts the records back in their place, and gives the
     /// pass back, which has seen the entry.
     pub(crate) fn finish<A, M: Plain<A, E, Answer>, R: Wait>(

@@ -2,7 +2,7 @@
 ghost use Rattle.std.specs.Prelude.{◌≡◌, ◌<◌, ◌⊎◌, length, MatchBool};
 ghost use mathlib.Core.List.{IsPrefix};
 
-use crate::naming::{At, Naming, Namings};
+use crate::naming::{ArrayNaming, At, Naming};
 use crate::right::{Answer, Law};
 use logbook::Seen;
 use std::marker::{Model, PhantomData};
@@ -72,14 +72,14 @@ impl<E, J: Naming> History<E, J> {
 
 /// A history that was seen of the unit at a place that is known when it runs. Contracts see the place and the entries.
 #[derive(Drop)]
-pub struct AnyHistory<E, S, N: Namings<S>> {
+pub struct AnyHistory<E, S, N: ArrayNaming<S>> {
     place: usize,
     count: u64,
     seen: Seen<E, Answer, Law>,
     of: PhantomData<(S, N)>,
 }
 
-impl<E, S, N: Namings<S>> Model for AnyHistory<E, S, N> {
+impl<E, S, N: ArrayNaming<S>> Model for AnyHistory<E, S, N> {
     ghost use Rattle.std.specs.Prelude.{◌≡◌, ℕ, List, length};
 
     ghost Value = { ℕ × List E };
@@ -89,7 +89,7 @@ impl<E, S, N: Namings<S>> Model for AnyHistory<E, S, N> {
     ghost invariant = { λ h. (h.count ≡ length h.seen.log) × (h.seen.book ≡ N.book h.place) };
 }
 
-impl<E, S, N: Namings<S>> AnyHistory<E, S, N> {
+impl<E, S, N: ArrayNaming<S>> AnyHistory<E, S, N> {
     /// The place of its unit.
     pub fn place(&self) -> usize
         ensures { result ≡ self.now.0 }

@@ -12,6 +12,6 @@ mod recorder;
 mod right;
 
 pub use history::{AnyHistory, History};
-pub use naming::{At, Naming, Namings};
+pub use naming::{ArrayNaming, At, Naming};
 pub use recorder::{HistoryWord, NewHistory, Recorder};
 pub use right::{Answer, Counted, Law, Right, start, take};

@@ -8,9 +8,9 @@ pub trait Naming {
     ghost book: { Book };
 }
 
-/// The units of an array by their places: which word counts a unit's history, which table its board stands in, and the state
+/// The names of the units of an array by their places: which word counts a unit's history, which table its board stands in, and the state
 /// that it opened in.
-pub trait Namings<S> {
+pub trait ArrayNaming<S> {
     ghost use Rattle.std.specs.Prelude.{ℕ};
     ghost use Rattle.logbook.specs.Pages.{Book};
     ghost use Rattle.atomic_table.specs.Seated.{TableId};
@@ -23,9 +23,9 @@ pub trait Namings<S> {
 }
 
 /// The naming of the unit at one place of an array.
-pub struct At<S, N: Namings<S>, const U: usize>(PhantomData<(S, N)>);
+pub struct At<S, N: ArrayNaming<S>, const U: usize>(PhantomData<(S, N)>);
 
-impl<S, N: Namings<S>, const U: usize> Naming for At<S, N, U> {
+impl<S, N: ArrayNaming<S>, const U: usize> Naming for At<S, N, U> {
     ghost book = { N.book U };
 }
 

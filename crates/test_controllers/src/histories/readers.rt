@@ -13,7 +13,7 @@ use std::test::*;
 use std::thread::{Threads, join};
 use test_memory::{Opens, new_unit};
 use unit_history::{NewUnit, Opened, Pass, Seat, SharedUnit};
-use unit_sequence::Namings;
+use unit_sequence::ArrayNaming;
 
 /// A unit that threads share, sessions S of it, and readers' seats T at its board.
 trait Shared<S, T> {
@@ -35,7 +35,7 @@ trait Shared<S, T> {
 
 /// Such a unit, and what its calls want.
 #[derive(Drop)]
-struct Unit<W: Wait + Drop, B: Blocks, F: Blocks, O: Opener<B>, N: Namings<Opened>> {
+struct Unit<W: Wait + Drop, B: Blocks, F: Blocks, O: Opener<B>, N: ArrayNaming<Opened>> {
     rt: W,
     alloc: Global,
     unit: SharedUnit<B, F, O, N, 0>,
@@ -43,11 +43,11 @@ struct Unit<W: Wait + Drop, B: Blocks, F: Blocks, O: Opener<B>, N: Namings<Opene
 
 /// A session. A call takes its pass out and puts it back.
 #[derive(Drop)]
-struct Session<B: Blocks, F: Blocks, O: Opener<B>, N: Namings<Opened>> {
+struct Session<B: Blocks, F: Blocks, O: Opener<B>, N: ArrayNaming<Opened>> {
     pass: Option<Pass<B, F, O, N>>,
 }
 
-impl<B: Blocks, F: Blocks, O: Opener<B>, N: Namings<Opened>> Session<B, F, O, N> {
+impl<B: Blocks, F: Blocks, O: Opener<B>, N: ArrayNaming<Opened>> Session<B, F, O, N> {
     // Takes the pass out, which is one of unit 0.
     fn take(&mut self) -> Option<Pass<B, F, O, N>> {
         let pass = self.pass.take()?;
@@ -55,7 +55,7 @@ impl<B: Blocks, F: Blocks, O: Opener<B>, N: Namings<Opened>> Session<B, F, O, N>
     }
 }
 
-impl<W: Wait + Drop, B: Blocks, F: Blocks, O: Opener<B>, N: Namings<Opened>> Shared<
+impl<W: Wait + Drop, B: Blocks, F: Blocks, O: Opener<B>, N: ArrayNaming<Opened>> Shared<
     Session<B, F, O, N>,
     Seat<B, F, O, N, 0>,
 > for Unit<W, B, F, O, N> {
@@ -215,7 +215,7 @@ fn happens<W: Threads + Sync, S: Send + Drop, T: Send, A: Shared<S, T> + Sync>(
 
 // Shares a unit.
 fn share<
-    N: Namings<Opened> + Send + Sync,
+    N: ArrayNaming<Opened> + Send + Sync,
     B: Blocks + Send + Sync,
     F: Blocks + Send + Sync,
     O: Opener<B> + Send + Sync,

@@ -5,5 +5,5 @@ use Rattle.array_units.proofs.units.Units.flush.Goals as goal
 
 pub returns : goal.returns
 returns g c =
-    subst (λ (p : ℕ). HasFlushed (devices g.B.Blocks g.F.Blocks g.O.Opener) (g.N.Namings.opening p) c.flush.result) c.at.ensures
+    subst (λ (p : ℕ). HasFlushed (devices g.B.Blocks g.F.Blocks g.O.Opener) (g.N.ArrayNaming.opening p) c.flush.result) c.at.ensures
     c.flush.ensures

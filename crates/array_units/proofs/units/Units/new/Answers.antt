@@ -8,9 +8,9 @@ pub seat_next-requires-clause-named : goal.seat_next-requires-clause-named
 seat_next-requires-clause-named g c =
     let rest = c.loop-place.new.items in
     let some : 0 < length rest = omega (arith, c.remove.ensures.len) in
-    subst (λ (place : ℕ). IsNamedAt g.N.Namings.book g.N.Namings.table g.N.Namings.opening g.B.Blocks.contents place c.remove.result)
+    subst (λ (place : ℕ). IsNamedAt g.N.ArrayNaming.book g.N.ArrayNaming.table g.N.ArrayNaming.opening g.B.Blocks.contents place c.remove.result)
     (sym c.loop-place.invariant.1)
-    (named_at g.N.Namings.book g.N.Namings.table g.N.Namings.opening g.B.Blocks.contents c.args.new.items c.loop-place._place
+    (named_at g.N.ArrayNaming.book g.N.ArrayNaming.table g.N.ArrayNaming.opening g.B.Blocks.contents c.args.new.items c.loop-place._place
     c.remove.result c.requires.named
     (removed c.args.new.items rest c.loop-place._place c.remove.result c.loop-place.invariant.0 some c.remove.ensures.value))
 

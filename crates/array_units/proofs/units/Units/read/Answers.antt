@@ -4,5 +4,5 @@ use Rattle.array_units.proofs.units.Units.read.Goals as goal
 
 pub returns : goal.returns
 returns g c =
-    subst (λ (p : ℕ). IsRead (g.O.Opener.claims && g.B.Blocks.claims) (g.N.Namings.opening p) p c.read.result) c.at.ensures
+    subst (λ (p : ℕ). IsRead (g.O.Opener.claims && g.B.Blocks.claims) (g.N.ArrayNaming.opening p) p c.read.result) c.at.ensures
     c.read.ensures
