@@ -22,6 +22,11 @@ use session_units::{Gate, LogicalUnits, Pass, Rooms, UnitSession};
 use std::alloc::Global;
 use std::marker::Model;
 use std::sync::Wait;
+use std::sync::atomic::AtomicU64;
+use std::time::Duration;
+
+/// For so many milliseconds a login rests before it looks again whether a unit is free.
+const BETWEEN: u64 = 5;
 
 /// Why a session does not begin. It is attached to no unit.
 #[derive(Clone, Copy, PartialEq, Eq)]
@@ -260,8 +265,39 @@ fn enter_in_turn<R: Wait, S: Sessions, P: Pass>(
     enter(rt, sessions, new, connection)
 }
 
+// Waits until this unit was seen to be free. False: the connection is over before.
+fn is_held_until_free<R: Wait, U: LogicalUnits, C: Connection>(
+    rt: &R,
+    units: &U,
+    unit: u8,
+    connection: &C,
+) -> bool
+    requires { unit < U.unit_count units.now }
+{
+    for _ in rt.forever() {
+        if units.is_free(unit) {
+            return true;
+        }
+        if !connection.is_held() {
+            return false;
+        }
+        AtomicU64::new(0).park_timeout(rt, 0, Duration::from_millis(BETWEEN));
+    }
+    unreachable!()
+}
+
+// Waits until each unit was seen to be free, whatever has it for long: whether the connection is still held then.
+fn is_held_behind<R: Wait, U: LogicalUnits, C: Connection>(rt: &R, units: &U, connection: &C) -> bool {
+    for unit in 0..units.count() {
+        if !is_held_until_free(rt, units, unit, connection) {
+            return false;
+        }
+    }
+    connection.is_held()
+}
+
 // Attaches a normal session that has its turn to all units; then it begins to live: its number and its TSIH. It may have waited for long,
-// and would end a session of its port that lives: so it is refused where its connection is over by then. Where a unit or the table
+// for its turn and for units, and would end a session of its port that lives: so it is refused where its connection is over by then. Where a unit or the table
 // refuses it, it is over at all units. What was seen then is kept.
 #[tactic(auto, using(crate::proofs::Refusing::too_late))]
 fn attach_and_enter<R: Wait, U: LogicalUnits, S: Sessions>(
@@ -289,7 +325,7 @@ fn attach_and_enter<R: Wait, U: LogicalUnits, S: Sessions>(
     ensures grounds { IfErr result (IsGrounded S.says false) }
     ensures left { IfErr result (λ _. at.new.items ≡ []) }
 {
-    if !connection.is_held() {
+    if !is_held_behind(rt, units, &connection) {
         return Err(BeginFault::Left);
     }
     match attach_in_turn(turn, rt, alloc, units, &port, group, at, seen) {

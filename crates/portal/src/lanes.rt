@@ -12,7 +12,7 @@ use std::marker::Model;
 use std::sync::{Arc, Wait};
 use std::thread::{Builder, Promise, PromisedHandle, Threads};
 use unit_history::Opened;
-use unit_sequence::Namings;
+use unit_sequence::ArrayNaming;
 
 /// What a lane's thread comes to: it has served at the desk of this group.
 #[derive(Clone, Copy, Drop)]
@@ -30,7 +30,7 @@ impl Promise<Group> for AtDesk {
 pub type Lane = PromisedHandle<Group, AtDesk>;
 
 // Serves what comes to the desk of a group, until it is closed and nothing waits there any more: the group of that desk.
-fn lane<B: Blocks, F: Blocks, O: Opener<B>, N: Namings<Opened>, R: Wait>(
+fn lane<B: Blocks, F: Blocks, O: Opener<B>, N: ArrayNaming<Opened>, R: Wait>(
     rt: &R,
     controllers: &Controllers<B, F, O, N>,
     group: Group,
@@ -48,7 +48,7 @@ fn lane<B: Blocks, F: Blocks, O: Opener<B>, N: Namings<Opened>, R: Wait>(
 
 /// Starts the lanes of a group's controller, as many as serve a desk. They end behind its close.
 pub fn start_lanes<
-    N: Namings<Opened> + Send + Sync + 'static,
+    N: ArrayNaming<Opened> + Send + Sync + 'static,
     B: Blocks + Send + Sync + 'static,
     F: Blocks + Send + Sync + 'static,
     O: Opener<B> + Send + Sync + 'static,

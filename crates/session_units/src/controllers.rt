@@ -10,9 +10,9 @@ use std::alloc::Global;
 use std::marker::Model;
 use std::sync::Wait;
 use unit_history::{LegalHistory, Opened, Pass as UnitPass};
-use unit_sequence::Namings;
+use unit_sequence::ArrayNaming;
 
-impl<B: Blocks, F: Blocks, O: Opener<B>, N: Namings<Opened>> Pass for UnitPass<B, F, O, N> {
+impl<B: Blocks, F: Blocks, O: Opener<B>, N: ArrayNaming<Opened>> Pass for UnitPass<B, F, O, N> {
     ghost held = { λ p. p };
 
     fn place(&self) -> usize {
@@ -26,13 +26,13 @@ impl<B: Blocks, F: Blocks, O: Opener<B>, N: Namings<Opened>> Pass for UnitPass<B
 
 /// The units of an array, and a desk for each controller, to which sessions of both hand the commands of the units that it owns.
 /// Contracts see how many units there are.
-pub struct Controllers<B: Blocks, F: Blocks, O: Opener<B>, N: Namings<Opened>> {
+pub struct Controllers<B: Blocks, F: Blocks, O: Opener<B>, N: ArrayNaming<Opened>> {
     units: Units<B, F, O, N>,
     first: Desk<B, F, O, N>,
     second: Desk<B, F, O, N>,
 }
 
-impl<B: Blocks, F: Blocks, O: Opener<B>, N: Namings<Opened>> Drop for Controllers<B, F, O, N> {
+impl<B: Blocks, F: Blocks, O: Opener<B>, N: ArrayNaming<Opened>> Drop for Controllers<B, F, O, N> {
     fn drop(self) {
         let Self {
             units: _,
@@ -42,7 +42,7 @@ impl<B: Blocks, F: Blocks, O: Opener<B>, N: Namings<Opened>> Drop for Controller
     }
 }
 
-impl<B: Blocks, F: Blocks, O: Opener<B>, N: Namings<Opened>> Model for Controllers<B, F, O, N> {
+impl<B: Blocks, F: Blocks, O: Opener<B>, N: ArrayNaming<Opened>> Model for Controllers<B, F, O, N> {
     ghost use Rattle.std.specs.Prelude.{◌≡◌, ℕ};
     ghost use Rattle.scsi_types.specs.declared.names.Group.TheVariants.{One, Two};
 
@@ -53,7 +53,7 @@ impl<B: Blocks, F: Blocks, O: Opener<B>, N: Namings<Opened>> Model for Controlle
     ghost invariant = { λ c. (c.first ≡ One) × (c.second ≡ Two) };
 }
 
-impl<B: Blocks, F: Blocks, O: Opener<B>, N: Namings<Opened>> Controllers<B, F, O, N> {
+impl<B: Blocks, F: Blocks, O: Opener<B>, N: ArrayNaming<Opened>> Controllers<B, F, O, N> {
     /// Two controllers with these units. No lane is at their desks yet.
     pub fn new(alloc: Global, units: Units<B, F, O, N>) -> Result<Controllers<B, F, O, N>, NoMemory>
         ensures { IfOk result (λ controllers. controllers ≡ units) }
@@ -89,7 +89,7 @@ impl<B: Blocks, F: Blocks, O: Opener<B>, N: Namings<Opened>> Controllers<B, F, O
     }
 }
 
-impl<B: Blocks, F: Blocks, O: Opener<B>, N: Namings<Opened>> LogicalUnits
+impl<B: Blocks, F: Blocks, O: Opener<B>, N: ArrayNaming<Opened>> LogicalUnits
     for Controllers<B, F, O, N> {
     ghost use Rattle.unit_history.specs.Calls.{HasWorked};
     ghost use Rattle.unit_entries.specs.Devices.{claims_of, devices};
@@ -113,6 +113,10 @@ impl<B: Blocks, F: Blocks, O: Opener<B>, N: Namings<Opened>> LogicalUnits
 
     fn count(&self) -> u8 {
         self.units.count() as u8
+    }
+
+    fn is_free(&self, unit: u8) -> bool {
+        self.units.registry(usize::from(unit)).is_some()
     }
 
     fn in_one_history(one: &LegalHistory<B, F, O, N>, other: &LegalHistory<B, F, O, N>) {

@@ -61,6 +61,10 @@ pub trait LogicalUnits {
     fn count(&self) -> u8
         ensures { result ≡ unit_count self.now };
 
+    /// Whether a command could have the unit now, as far as was seen. It waits for nobody, and is no entry.
+    fn is_free(&self, unit: u8) -> bool
+        requires { unit < unit_count self.now };
+
     /// All that is seen of one unit stands in one history: of two such, one begins the other. It does nothing.
     fn in_one_history(one: &Self::History, other: &Self::History)
         requires { (seen other.now).0 ≡ (seen one.now).0 }
