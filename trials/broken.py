@@ -57,7 +57,7 @@ BROKEN = {
                    "        // A write behind the end would make the file longer", "load.py 8 8 5", "faults"),
     "refused": Broken(ONE, "crates/once_target/src/attachment.rt", "StepEnd::NoMemory => TargetAnswer::Busy",
                       "StepEnd::NoMemory => TargetAnswer::Gone", "refused.py", "refused.py: three commands, allocation"),
-    "standstill": Broken(ONE, "crates/deadline/src/watch.rt", "call, time));\n        self.is_hung.store(false, Ordering::Release);\n",
+    "standstill": Broken(ONE, "crates/timed_calls/src/watch.rt", "call, time));\n        self.is_hung.store(false, Ordering::Release);\n",
                          "call, time));\n", "standstill.py disk_that_hangs_and_comes_back", "WRONG disk_that_hangs_and_comes_back: Failed"),
     "fencing": Broken(OTHER, "crates/reservations/src/remove.rt", "        retain_without_others_of_key(&mut self.registrants",
                       "        if !kind.is_of_all_registrants() && request.kind != 6 {\n            self.count();\n"

@@ -32,7 +32,7 @@ const MOST: u64 = 65536;
 /// So many milliseconds an accept loop rests where no connection could be accepted.
 const REST: u64 = 100;
 
-/// What the stack of a thread takes.
+/// So many bytes has the stack of a thread.
 const STACK: usize = 256 * 1024;
 
 /// More connections than wait at any socket, which is the most that is looked for before the socket was its owner's alone.

@@ -19,10 +19,15 @@ use unit_history::Opened;
 use unit_sequence::ArrayNaming;
 
 // As its console sees it.
-fn operated<'a, R: Wait + Clock, B: Blocks, F: Blocks, O: Opener<B>, N: ArrayNaming<Opened>, G: Drop>(
-    rt: &'a R,
-    server: &'a Server<Controllers<B, F, O, N>, G>,
-) -> Operated<'a, R, B, F, O, N> {
+fn operated<
+    'a,
+    R: Wait + Clock,
+    B: Blocks,
+    F: Blocks,
+    O: Opener<B>,
+    N: ArrayNaming<Opened>,
+    G: Drop,
+>(rt: &'a R, server: &'a Server<Controllers<B, F, O, N>, G>) -> Operated<'a, R, B, F, O, N> {
     Operated {
         rt,
         controllers: &server.device.units,

@@ -25,7 +25,14 @@ const UNAVAILABLE: u64 = 3;
 
 /// Both controllers, as the console sees them.
 #[derive(Drop)]
-pub struct Operated<'a, R: Wait + Clock, B: Blocks, F: Blocks, O: Opener<B>, N: ArrayNaming<Opened>> {
+pub struct Operated<
+    'a,
+    R: Wait + Clock,
+    B: Blocks,
+    F: Blocks,
+    O: Opener<B>,
+    N: ArrayNaming<Opened>,
+> {
     pub rt: &'a R,
     pub controllers: &'a Controllers<B, F, O, N>,
     /// What happens is told to it.

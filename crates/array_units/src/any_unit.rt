@@ -25,7 +25,13 @@ pub struct Seated<B: Blocks, F: Blocks, O: Opener<B>, N: ArrayNaming<Opened>, co
     pub(crate) seat: Mutex<Seat<B, F, O, N, U>>,
 }
 
-impl<B: Blocks, F: Blocks, O: Opener<B>, N: ArrayNaming<Opened>, const U: usize> Seated<B, F, O, N, U> {
+impl<B: Blocks, F: Blocks, O: Opener<B>, N: ArrayNaming<Opened>, const U: usize> Seated<
+    B,
+    F,
+    O,
+    N,
+    U,
+> {
     /// What the board shows. The lock is the reader's own.
     fn read<W: Wait>(&self, rt: &W) -> Row
         ensures { IsRead (O.claims && B.claims) (N.opening U) U result }

@@ -11,7 +11,7 @@ use std::{io, thread};
 /// So many milliseconds lie between two looks.
 const BETWEEN: u64 = 100;
 
-/// What the stack of its thread takes.
+/// So many bytes has the stack of its thread.
 const STACK: usize = 64 * 1024;
 
 // Looks at the clock on and on, and keeps what is counted at the first look and then each STEP seconds.

@@ -12,7 +12,7 @@ use std::thread::{Builder, JoinHandle, Threads};
 use std::time::{Clock, Duration};
 use std::{mem, thread};
 
-/// What the writer's stack takes.
+/// So many bytes has the stack of the writer.
 const STACK: usize = 256 * 1024;
 
 /// So many seconds the writer sleeps at most: then it looks whether there is something to sum up.

@@ -113,7 +113,8 @@ impl<B: Blocks, F: Blocks, O: Opener<B>, N: ArrayNaming<Opened>> Drop for Mover<
     }
 }
 
-impl<'a, B: Blocks, F: Blocks, O: Opener<B>, N: ArrayNaming<Opened>> Model for Mover<'a, B, F, O, N> {
+impl<'a, B: Blocks, F: Blocks, O: Opener<B>, N: ArrayNaming<Opened>> Model
+    for Mover<'a, B, F, O, N> {
     ghost use Rattle.failover.specs.Mover.{MoverValue};
 
     ghost Value = { MoverValue };
@@ -134,7 +135,8 @@ impl<'a, B: Blocks, F: Blocks, O: Opener<B>, N: ArrayNaming<Opened>> Mover<'a, B
     }
 }
 
-impl<'a, B: Blocks, F: Blocks, O: Opener<B>, N: ArrayNaming<Opened>> Moves for Mover<'a, B, F, O, N> {
+impl<'a, B: Blocks, F: Blocks, O: Opener<B>, N: ArrayNaming<Opened>> Moves
+    for Mover<'a, B, F, O, N> {
     ghost use Rattle.unit_entries.specs.Devices.{devices};
     ghost use Rattle.failover.specs.Mover.{IsMoveMade};
 

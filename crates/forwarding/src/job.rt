@@ -228,7 +228,8 @@ impl<B: Blocks, F: Blocks, O: Opener<B>, N: ArrayNaming<Opened>> Drop for Ticket
     }
 }
 
-impl<'a, B: Blocks, F: Blocks, O: Opener<B>, N: ArrayNaming<Opened>> Model for Ticket<'a, B, F, O, N> {
+impl<'a, B: Blocks, F: Blocks, O: Opener<B>, N: ArrayNaming<Opened>> Model
+    for Ticket<'a, B, F, O, N> {
     ghost use Rattle.std.specs.Prelude.{◌≡◌};
     ghost use Rattle.forwarding.specs.Served.{Handed, handed};
 

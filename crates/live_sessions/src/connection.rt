@@ -8,7 +8,7 @@ use std::sync::Arc;
 use std::time::Duration;
 
 /// For so many seconds a read of a session waits. It holds less memory from then on, until its initiator sends again.
-const REST: u64 = 10;
+const REST_SECONDS: u64 = 10;
 
 /// A connection, as far as others than its session's reader and writer touch it.
 pub trait Connection {
@@ -64,6 +64,6 @@ impl Connection for Arc<TcpStream, Global> {
 
     #[tactic(auto, using(crate::specs::Silence::no_limit_says))]
     fn end_limit(&self) {
-        let _ = self.set_read_timeout(Some(Duration::from_secs(REST)));
+        let _ = self.set_read_timeout(Some(Duration::from_secs(REST_SECONDS)));
     }
 }

@@ -287,7 +287,11 @@ fn is_held_until_free<R: Wait, U: LogicalUnits, C: Connection>(
 }
 
 // Waits until each unit was seen to be free, whatever has it for long: whether the connection is still held then.
-fn is_held_behind<R: Wait, U: LogicalUnits, C: Connection>(rt: &R, units: &U, connection: &C) -> bool {
+fn is_held_behind<R: Wait, U: LogicalUnits, C: Connection>(
+    rt: &R,
+    units: &U,
+    connection: &C,
+) -> bool {
     for unit in 0..units.count() {
         if !is_held_until_free(rt, units, unit, connection) {
             return false;

@@ -1,6 +1,6 @@
 //! What of commands is counted.
 
-use crate::told::operation_of;
+use crate::log_words::operation_of;
 use meters::{Ended, Served};
 use scsi_types::{Asked, Command, Reply, Status};
 use session::TargetAnswer;

@@ -6,13 +6,13 @@ mod counted;
 mod flushers;
 mod keepalive;
 mod lanes;
+mod log_words;
 mod logged_target;
 mod login_limit;
 mod logins;
 mod observer;
 mod server;
 mod stacks;
-mod told;
 mod wire;
 mod worker;
 

@@ -1,8 +1,8 @@
 //! The target of one session, of which the log is told what happens.
 ghost use Rattle.std.specs.Prelude.{◌≡◌, [], map};
 
+use crate::log_words::{is_trouble, operation_of, reservation_in, sense_of, states_in};
 use crate::observer::Observer;
-use crate::told::{is_trouble, operation_of, reservation_in, sense_of, states_in};
 use event_log::Log;
 use events::{By, Cause, Event, Initiator};
 use live_sessions::{BeginFault, Connection, SessionTarget, Sessions};
@@ -48,7 +48,7 @@ impl Visitor {
     }
 
     // Keeps for a log that is on whose session is to begin.
-    fn meet(&mut self, alloc: Global, log: &Log, name: &[u8], isid: u64) {
+    fn note_initiator(&mut self, alloc: Global, log: &Log, name: &[u8], isid: u64) {
         if log.is_on() {
             self.name = name.to_vec(alloc).unwrap_or(Vec::new(alloc));
             self.isid = isid;
@@ -247,7 +247,8 @@ impl<'a, R: Wait + Clock, U: LogicalUnits + Drop, G: Gate + Drop, S: Sessions + 
     }
 
     fn begin(&mut self, name: &[u8], isid: u64, kind: SessionType) -> BeginAnswer {
-        self.visitor.meet(self.alloc, self.observer.log, name, isid);
+        self.visitor
+            .note_initiator(self.alloc, self.observer.log, name, isid);
         let tried = self.target.try_begin(name, isid, kind);
         self.visitor.tried(tried, kind);
         self.teller().tried(tried, kind);

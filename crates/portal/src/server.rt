@@ -32,7 +32,7 @@ use std::{io, thread};
 const LOGIN_SILENCE: u64 = 30;
 
 /// So many milliseconds an accept loop rests where no connection could be accepted.
-const REST: u64 = 100;
+const REST_MS: u64 = 100;
 
 /// The system has no descriptor more, as Linux numbers it.
 const ENFILE: i32 = 23;
@@ -348,7 +348,7 @@ fn failed_accept<R: Clock>(rt: &R, e: io::Error) -> NotAccepted {
         ErrorKind::InvalidInput => NotAccepted::Stopped,
         ErrorKind::ConnectionAborted => NotAccepted::GoneAway,
         _ => {
-            thread::sleep(rt, Duration::from_millis(REST));
+            thread::sleep(rt, Duration::from_millis(REST_MS));
             NotAccepted::Wanting(unaccepted(&e))
         }
     }

@@ -1,6 +1,6 @@
 //! The stacks of threads.
 
-/// What the stack of a thread takes.
+/// So many bytes has the stack of a thread.
 pub const STACK: usize = 256 * 1024;
 
 /// How large the stacks of workers are. One for which there is no room has no thread.

@@ -13,7 +13,7 @@ use std::thread::{Builder, JoinHandle, Threads};
 use std::time::Clock;
 use std::{io, mem};
 
-/// What the stack of the thread takes.
+/// So many bytes has the stack of the thread.
 const STACK: usize = 256 * 1024;
 
 /// How often one who asked looks for the answer before it sleeps, and the thread for what is asked: some 20 and 80 microseconds.

@@ -26,7 +26,7 @@ const LIFETIME: u64 = 5000;
 /// So many milliseconds, at most, is waited for a peer that goes on sending behind its answer.
 const LINGERING: u64 = 500;
 
-/// What the stack of a thread takes.
+/// So many bytes has the stack of a thread.
 const STACK: usize = 256 * 1024;
 
 /// So many milliseconds the accept loop rests where no connection could be accepted.
