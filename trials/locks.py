@@ -4,15 +4,15 @@ held. That is the table of docs/ARCHITECTURE.md, "The order of locks"; the two h
 
 # By the function that takes it, the innermost first that has a row; a row may name the caller too.
 TAKEN_BY = (
-    ("live_sessions::target::SessionTarget::join", "logins"),
+    ("live_sessions::target::SessionTarget::join", "beginning"),
     ("unit_lock::unit::LockedUnit", "unit"),
     ("array_units::any_unit::Seated::read", "seat"),
     ("forwarding::desk::Desk", "queue"),
     ("forwarding::job", "answer"),
     ("live_sessions::sessions::MutexSessions", "sessions"),
-    ("portal::logins", "waiting logins"),
-    ("portal::server::admit", "waiting logins"),
-    ("portal::server::start", "waiting logins"),
+    ("portal::logins", "logins"),
+    ("portal::server::admit", "logins"),
+    ("portal::server::start", "logins"),
     ("array_operations::administered", "sessions"),
     ("array_administration::answers::Answers", "moves"),
     ("timed_calls::watch", "hangs"),
@@ -36,7 +36,7 @@ TAKEN_BY = (
 # What may be waited for while this is held. Who only tries, and goes on without, can keep nobody waiting in a ring, and is not looked at.
 WHILE_HELD = {
     "moves": {"unit", "seat", "device's thread", "hangs"},
-    "logins": {"unit", "sessions"},
+    "beginning": {"unit", "sessions"},
     "unit": {"device's thread", "hangs"},
     "device's thread": {"hangs"},
     "preparer's thread": {"hangs"},
