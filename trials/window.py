@@ -552,13 +552,15 @@ def registration_file_that_hangs(folder):
 
 @case
 def array_that_ends(folder):
-    """From `quit` on it is not well, also while its flush waits for a disk."""
+    """From `quit` on it is not well, also while its flush waits behind a command that hangs."""
     with Mounted(folder) as place:
         with Array(place.that_hangs(), more={"ARRAYD_HTTP": f"127.0.0.1:{AT}"}) as array:
             session = host()
             is_so("a write", write(session, 0), GOOD)
             is_so("well", get("/health")[::2], (200, b"ok\n"))
             with place.frozen():
+                session.submit(0, [0x2A, 0, 0, 0, 0, 0, 0, 0, 1, 0], out=bytes(512))
+                time.sleep(0.5)
                 array.tell("quit")
                 ends = (503, b"The array ends: it takes no command in any more.\n")
                 is_so("it ends", until(lambda: get("/health")[::2] == ends, 5), True)
