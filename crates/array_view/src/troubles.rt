@@ -315,16 +315,6 @@ fn put_failure(text: &mut String, failure: &FailureView) -> Result<(), AllocErro
     put_second(text, " last=", failure.last)
 }
 
-// What makes this so of a unit, where calls do.
-fn culprit(unit: &UnitView, trouble: Trouble) -> Option<&FailureView> {
-    for failure in &unit.failures {
-        if trouble.is_by(failure) {
-            return Some(failure);
-        }
-    }
-    None
-}
-
 // Notes a sentence about the unit of this number, and what failed.
 fn note(
     alloc: Global,
@@ -341,17 +331,48 @@ fn note(
     Ok(())
 }
 
+// Notes a sentence for each call that makes this so of a unit: how many.
+fn note_culprits(
+    alloc: Global,
+    problems: &mut Vec<String>,
+    unit: &UnitView,
+    trouble: Trouble,
+) -> Result<usize, AllocError> {
+    let mut count = 0usize;
+    for failure in &unit.failures {
+        if trouble.is_by(failure)
+            && let Some(sentence) = trouble.sentence(Some(failure))
+        {
+            note(alloc, problems, unit.unit, sentence, Some(failure))?;
+            count = count.saturating_add(1);
+        }
+    }
+    Ok(count)
+}
+
+// Notes that this is wrong with a unit, where something is to be told of it.
+fn note_trouble(
+    alloc: Global,
+    problems: &mut Vec<String>,
+    unit: &UnitView,
+    trouble: Trouble,
+) -> Result<(), AllocError> {
+    if note_culprits(alloc, problems, unit, trouble)? == 0
+        && let Some(sentence) = trouble.sentence(None)
+    {
+        note(alloc, problems, unit.unit, sentence, None)?;
+    }
+    Ok(())
+}
+
 // Notes what is wrong with a unit.
 fn of_unit(alloc: Global, problems: &mut Vec<String>, unit: &UnitView) -> Result<(), AllocError> {
     if unit.owner != 1 && unit.owner != 2 {
         note(alloc, problems, unit.unit, "no controller owns it", None)?;
     }
     for (trouble, tally) in ALL.iter().zip(&unit.troubles) {
-        let culprit = culprit(unit, *trouble);
-        if tally.count != 0
-            && let Some(sentence) = trouble.sentence(culprit)
-        {
-            note(alloc, problems, unit.unit, sentence, culprit)?;
+        if tally.count != 0 {
+            note_trouble(alloc, problems, unit, *trouble)?;
         }
     }
     Ok(())

@@ -252,6 +252,7 @@ impl<F: LastingFile> FileBlocks<F> {
         self.file = file;
         self.tally.opened = self.tally.opened.saturating_add(1);
         self.tell_well(Call::Open);
+        self.tell_well(Call::Seek);
         Ok(())
     }
 

@@ -43,6 +43,9 @@ pub(crate) struct Waiting {
     pub(crate) discoveries: Strangers,
     // What hosts do that are in.
     pub(crate) hosts: Strangers,
+    // Reservations and resets, so that nothing else that hosts do keeps these from being told; and calls on files that failed.
+    pub(crate) fences: Strangers,
+    pub(crate) failures: Strangers,
 }
 
 /// What all hands that hold a log share.
@@ -71,6 +74,8 @@ impl Waiting {
             refused: Strangers::none(),
             discoveries: Strangers::none(),
             hosts: Strangers::of_hosts(),
+            fences: Strangers::of_hosts(),
+            failures: Strangers::of_hosts(),
         })
     }
 
@@ -87,13 +92,21 @@ impl Waiting {
             | Event::SessionEnded(..)
             | Event::GroupsSet(_, _, _, _, By::Session(_))
             | Event::NotMoved(_, _, _, By::Session(_))
-            | Event::Reserved(..)
-            | Event::Reset(..)
             | Event::CommandFailed(..)
             | Event::Busy(..) => self.hosts.is_told(now.as_secs()),
+            Event::Reserved(..) | Event::Reset(..) => self.fences.is_told(now.as_secs()),
+            Event::DeviceFailed(..) => self.failures.is_told(now.as_secs()),
             _ => true,
         };
         !is_told || self.keep(event)
+    }
+
+    /// How many lines were not kept of what hosts do that are in, and of what came of it, where the spell is over, or the log ends.
+    pub(crate) fn sum_of_hosts(&mut self, now: u64, is_last: bool) -> u64 {
+        let deeds = self.hosts.sum(now, is_last);
+        let fences = self.fences.sum(now, is_last);
+        let failures = self.failures.sum(now, is_last);
+        deeds.saturating_add(fences).saturating_add(failures)
     }
 
     // Keeps the line of an event without its time. False: there was no room for it.

@@ -152,18 +152,24 @@ impl Tally {
         are_read
     }
 
-    // Whether these blocks, which were read, are all for which there was no place.
+    // What is left from the first to the last of the blocks for which there was no place, these being read: whether nothing is.
     fn others_are_read(&self, from: u64, to: u64) -> bool {
+        let first = self.first.load(Ordering::Acquire);
         let behind = self.behind.load(Ordering::Acquire);
         if behind == 0 {
             return true;
         }
-        from <= self.first.load(Ordering::Acquire)
-            && behind <= to
-            && self
-                .behind
-                .compare_exchange(behind, 0, Ordering::AcqRel, Ordering::Acquire)
-                .is_ok()
+        let (left, end) = match left_of(first, behind, from, to) {
+            (left, end) if left < end => (left, end),
+            _ => (u64::MAX, 0),
+        };
+        let begins = self
+            .first
+            .compare_exchange(first, left, Ordering::AcqRel, Ordering::Acquire);
+        let ends = self
+            .behind
+            .compare_exchange(behind, end, Ordering::AcqRel, Ordering::Acquire);
+        end == 0 && begins.is_ok() && ends.is_ok()
     }
 
     /// These blocks were read: whether all blocks of those that are not over were by now.

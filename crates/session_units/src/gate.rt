@@ -12,7 +12,7 @@ use std::marker::{Brand, Model, PhantomData};
 use std::time::Duration;
 
 /// So many seconds a command waits at most for room, before its unit is asked.
-const PATIENCE_SECONDS: u64 = 10;
+const PATIENCE_SECONDS: u64 = 8;
 
 /// What each command passes before its unit is asked, and what flushes behind it, where the unit was asked without the flush. It makes no
 /// reply: it can only keep a command waiting, and say that its flush has failed.

@@ -145,7 +145,7 @@ fn seen_behind<R: Wait>(rt: &R, alloc: Global, steps: &[Step]) -> Result<String,
 
 #[test]
 fn what_failed_is_over_by_what_went_well(rt: HostRuntime) -> Result<(), Fail> {
-    let rows: [(&[Step], &str); 25] = [
+    let rows: [(&[Step], &str); 27] = [
         (&[], ""),
         // Of its own unit, and no growth.
         (&[Hangs(1)], "1 disk hung 1 now;"),
@@ -212,6 +212,40 @@ fn what_failed_is_over_by_what_went_well(rt: HostRuntime) -> Result<(), Fail> {
                 Reads(0, 8, 2),
             ],
             "0 disk read 2 over;",
+        ),
+        // At more places than are known apart: read from the first on.
+        (
+            &[
+                FailsToReadOne(0, 0),
+                FailsToReadOne(0, 100),
+                FailsToReadOne(0, 200),
+                FailsToReadOne(0, 300),
+                FailsToReadOne(0, 400),
+                FailsToReadOne(0, 500),
+                FailsToReadOne(0, 600),
+                FailsToReadOne(0, 700),
+                FailsToReadOne(0, 800),
+                FailsToReadOne(0, 900),
+                Reads(0, 0, 850),
+            ],
+            "0 disk read 10 now;",
+        ),
+        (
+            &[
+                FailsToReadOne(0, 0),
+                FailsToReadOne(0, 100),
+                FailsToReadOne(0, 200),
+                FailsToReadOne(0, 300),
+                FailsToReadOne(0, 400),
+                FailsToReadOne(0, 500),
+                FailsToReadOne(0, 600),
+                FailsToReadOne(0, 700),
+                FailsToReadOne(0, 800),
+                FailsToReadOne(0, 900),
+                Reads(0, 0, 850),
+                Reads(0, 850, 51),
+            ],
+            "0 disk read 10 over;",
         ),
         // A save that came too late was told as failed, however it ended.
         (&[IsBack(0, Call::Flush)], "0 file write 1 now;"),

@@ -1,7 +1,7 @@
 //! The thread that writes the lines of a log: how many lines were lost is told behind the next that are written.
 use crate::ends::must;
 use event_log::{Log, Page, close, start};
-use events::{Cause, Event, Initiator, Path, SessionType, Why};
+use events::{Call, Cause, Event, Initiator, Operation, Part, Path, Place, SessionType, Why};
 use std::alloc::Global;
 use std::fs::{self, File, OpenFile};
 use std::io;
@@ -17,6 +17,8 @@ const PATH: &str = "lines";
 
 /// Where the lines of another test are.
 const OTHER: &str = "others";
+
+const FAILURES: &str = "failures";
 
 /// What a page and its test share.
 #[derive(Drop)]
@@ -119,6 +121,7 @@ fn lines_that_were_lost_are_told(rt: HostRuntime) {
 #[derive(Drop)]
 struct There<R: Files<File = File> + Drop> {
     rt: R,
+    name: &'static str,
 }
 
 impl<R: Files<File = File> + Drop> Page for There<R> {
@@ -126,7 +129,7 @@ impl<R: Files<File = File> + Drop> Page for There<R> {
         File::options()
             .append(true)
             .create(true)
-            .open(&self.rt, OTHER)
+            .open(&self.rt, self.name)
             .ok()
     }
 }
@@ -169,12 +172,45 @@ fn written_of<R: Files<File = File> + Wait + Clock + Abort>(
     for _ in 0..ends.saturating_add(100) {
         log.tell(rt, &Event::Reset(0, who, 1));
     }
+    text_at_its_end(rt, alloc, log, OTHER)
+}
+
+// Ends a log: what is written then.
+fn text_at_its_end<R: Files<File = File> + Wait + Clock + Abort>(
+    rt: &R,
+    alloc: Global,
+    log: &Log,
+    name: &str,
+) -> String {
     log.tell(rt, &Event::Stopping);
     close(rt, log);
-    let file = File::open(rt, OTHER).expect(rt, "lines");
+    let file = File::open(rt, name).expect(rt, "lines");
     let text = io::read_to_string(alloc, file).expect(rt, "lines");
-    fs::remove_file(rt, OTHER).expect(rt, "lines");
+    fs::remove_file(rt, name).expect(rt, "lines");
     text
+}
+
+// Tells of so many commands that were answered BUSY, and of as many calls that failed, and of five resets behind these: what is written
+// once the log ends.
+fn written_of_failures<R: Files<File = File> + Wait + Clock + Abort>(
+    rt: &R,
+    alloc: Global,
+    log: &Log,
+    count: u32,
+) -> String {
+    let who = Initiator { name: b"", isid: 0 };
+    let place = Place { first: 0, count: 1 };
+    for _ in 0..count {
+        log.tell(rt, &Event::Busy(0, Operation::Read, who, 1));
+        log.tell(
+            rt,
+            &Event::DeviceFailed(0, Part::Disk, Call::Write, place, 28),
+        );
+    }
+    for _ in 0..5 {
+        log.tell(rt, &Event::Reset(0, who, 1));
+    }
+    text_at_its_end(rt, alloc, log, FAILURES)
 }
 
 // What strangers do fills no disk, nor what hosts do that are in.
@@ -184,6 +220,7 @@ fn what_strangers_do_takes_few_lines(rt: HostRuntime) {
     let _ = fs::remove_file(&rt, OTHER);
     let page = There {
         rt: rt.clone().expect(&rt, "memory"),
+        name: OTHER,
     };
     let log = Log::new(alloc).expect(&rt, "memory");
     start::<HostRuntime, There<HostRuntime>>(&rt, alloc, &log, page).expect(&rt, "a thread");
@@ -202,4 +239,29 @@ fn what_strangers_do_takes_few_lines(rt: HostRuntime) {
     let dropped = count_of(&text, " event=dropped lines=100");
     let seen = (dropped, text.lines().count());
     must(&rt, seen == (1, 1101), "lines", &seen);
+}
+
+// How many lines of a text tell of such an event.
+fn told_of(text: &str, event: &str) -> usize {
+    text.lines().filter(|line| line.contains(event)).count()
+}
+
+// What fails, or is refused, takes a thousand lines a minute, and keeps no reset or reservation from being told.
+#[test]
+fn what_fails_takes_few_lines_and_hides_no_fence(rt: HostRuntime) {
+    let alloc = rt.alloc();
+    let _ = fs::remove_file(&rt, FAILURES);
+    let page = There {
+        rt: rt.clone().expect(&rt, "memory"),
+        name: FAILURES,
+    };
+    let log = Log::new(alloc).expect(&rt, "memory");
+    start::<HostRuntime, There<HostRuntime>>(&rt, alloc, &log, page).expect(&rt, "a thread");
+    let text = written_of_failures(&rt, alloc, &log, 1100);
+    let busy = told_of(&text, " event=busy ");
+    let failed = told_of(&text, " event=device_failed ");
+    let resets = told_of(&text, " event=unit_reset ");
+    let dropped = count_of(&text, " event=dropped lines=200");
+    let seen = (busy, failed, resets, dropped);
+    must(&rt, seen == (1000, 1000, 5, 1), "lines", &seen);
 }

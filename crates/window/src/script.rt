@@ -334,10 +334,11 @@ function show(view) {
   fill('registration_count', '(' + registrations.length + unread + ')');
   table('registration_table', [['unit', 'unit'], ['initiator', 'initiator'], ['ISID', 'isid'], ['by', 'by'], ['key', 'key'],
     ['holds', 'holds']], registrations);
+  const both = { controller: 'both', at: '', sessions: sum(view.controllers.map(one => one.sessions)), logins: view.logins,
+    refused: sum(view.refused_logins.map(tally => tally.count)) };
   table('controller_table', [['controller', 'controller'], ['portals', 'at'], ['sessions', 'sessions'], ['logins', 'logins'],
-    ['refused', 'refused']], view.controllers.map((one, place) => ({ ...one, controller: 'controller ' + one.controller,
-    at: one.portals.join(' '),
-    logins: place ? '' : view.logins, refused: place ? '' : sum(view.refused_logins.map(tally => tally.count)) })));
+    ['refused', 'refused']], [...view.controllers.map(one => ({ ...one, controller: 'controller ' + one.controller,
+    at: one.portals.join(' '), logins: '', refused: '' })), both]);
 }
 let asked = -Infinity, isKept = true;
 async function ask(path) {
