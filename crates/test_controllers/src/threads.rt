@@ -1,10 +1,11 @@
 //! Three threads that use one unit: two that write, and one that reads its row.
-use crate::any_array::{Array, attached, want};
+use crate::any_array::{Array, attached};
 use crate::runs::run;
 use crate::tales::Tale;
 use scsi_types::{Command, Group, PrOutAction};
 use std::test::Fail;
 use std::thread::{Threads, join};
+use test_wants::want;
 
 /// So many commands a thread.
 const TIMES: u64 = 400;

@@ -2,7 +2,6 @@
 //! seats, and the sessions merge what they have seen when all threads have ended.
 ghost use Rattle.unit_history.specs.Naming.{IsNamedAt};
 
-use crate::any_array::want;
 use block_file::{Blocks, FusedOpener, KeepOpener, MemBlocks, Opener, ReplyMemory};
 use scsi_types::{Command, Group, PortName};
 use status::MOST_SEATS;
@@ -12,6 +11,7 @@ use std::sync::Wait;
 use std::test::*;
 use std::thread::{Threads, join};
 use test_memory::{Opens, new_unit};
+use test_wants::want;
 use unit_history::{NewUnit, Opened, Pass, Seat, SharedUnit};
 use unit_sequence::ArrayNaming;
 

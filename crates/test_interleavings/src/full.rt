@@ -1,7 +1,7 @@
 //! A desk in the pure world that is full.
 use crate::ends::must;
-use crate::interleavings::run::notes_behind;
-use crate::interleavings::worlds::{MemWorld, events_of, two_units};
+use crate::run::notes_behind;
+use crate::worlds::{MemWorld, events_of, two_units};
 use std::alloc::Global;
 use std::process::Abort;
 use std::test::*;

@@ -17,8 +17,8 @@
 //! Sessions go by the order in which they attached, units by their places. Commands are TEST UNIT READY, SET TARGET PORT GROUPS (`set 2`),
 //! WRITE (10) of block 0 with a byte (`write 5`), with FUA (`fua 5`) and beyond the last block (`beyond`), and SYNCHRONIZE CACHE (10).
 use crate::ends::must;
-use crate::interleavings::worlds::{MemWorld, events_of, two_units};
-use crate::interleavings::{late, moves, sessions};
+use crate::worlds::{MemWorld, events_of, two_units};
+use crate::{late, moves, sessions};
 use scsi_types::{Group, Reply, Status};
 use std::alloc::{AllocError, Global};
 use std::process::Abort;
