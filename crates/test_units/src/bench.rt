@@ -1,7 +1,5 @@
 //! The unit of a script, and its devices.
-use crate::device::{Failing, FailingBlocks, crashed};
 use crate::ended::Ended;
-use crate::reg_file::files::{OPEN_CALLS, formatted};
 use crate::rows::Row;
 use crate::served::Served;
 use block_file::{Blocks, DeviceFailed, FusedOpener, KeepOpener, MemBlocks};
@@ -9,6 +7,7 @@ use crash_blocks::Pick;
 use scsi_types::Place;
 use std::alloc::Global;
 use std::process::Abort;
+use test_devices::{Failing, FailingBlocks, OPEN_CALLS, crashed, formatted};
 use unit_state::Unit;
 
 /// The unit that a script has: for how many numbers it is played, the unit's number among two of the array 1, how many blocks of
@@ -65,7 +64,8 @@ impl Bench {
     /// The unit of a script, with a registration file of nothing.
     pub fn open(rt: &impl Abort, alloc: Global, setup: &Setup) -> Bench {
         let blocks = MemBlocks::new(alloc, setup.blocks).expect(rt, "memory");
-        let file = formatted(rt, alloc).close();
+        let file = formatted(alloc).expect(rt, "a registration file");
+        let file = file.close();
         Bench::over(rt, alloc, setup.place, &setup.faults, blocks, file)
     }
 

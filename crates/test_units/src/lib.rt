@@ -1,14 +1,11 @@
 //! Tests of a logical unit over its public calls: each table is a text with rows of what sessions ask, and of what is answered. Beside
-//! them stand a loss of power at each call of its devices, the registration file by itself, and the rules that stand below a unit
-//! (`rules`).
+//! them stand a loss of power at each call of its devices, and the rules that stand below a unit (`rules`).
 #![tactic(auto)]
 
 #[cfg(test)]
 mod access;
 #[cfg(test)]
 mod bench;
-#[cfg(test)]
-mod device;
 #[cfg(test)]
 mod ended;
 #[cfg(test)]
@@ -23,8 +20,6 @@ mod identities;
 mod lasting;
 #[cfg(test)]
 mod medium;
-#[cfg(test)]
-mod reg_file;
 #[cfg(test)]
 mod rows;
 #[cfg(test)]

@@ -1,7 +1,7 @@
 //! The registration file over its public calls.
 
 mod bytes;
-pub mod files;
+mod files;
 mod records;
 mod refusals;
 mod saves;

@@ -1,19 +1,16 @@
 //! Records, and devices with their blocks.
-use crate::rules::registrations::run::out;
-use aptpl_file::{FILE_BLOCKS, RegFile};
+use crate::run::out;
+use aptpl_file::RegFile;
 use block_file::{Blocks, MemBlocks};
 use reservations::{Record, Registry};
 use std::alloc::Global;
 use std::process::Abort;
 use test_connections::bytes_of;
 
-/// The calls of an open: the root, the slot, and a flush.
-pub const OPEN_CALLS: u64 = 3;
-
 /// The calls of a save: the slot, a flush, the root, and a flush.
 pub const SAVE_CALLS: u64 = 4;
 
-/// A registry after these requests, with commas between, each as the tables of `rules` have it.
+/// A registry after these requests, with commas between, each as the tables have it (`run.rt`).
 pub fn registry_after(rt: &impl Abort, alloc: Global, requests: &str) -> Registry {
     let mut registry = Registry::new(alloc).expect(rt, "memory");
     for request in requests.split(", ") {
@@ -32,12 +29,6 @@ fn told(rt: &impl Abort, alloc: Global, record: Record) -> Vec<u8> {
 pub fn holds(rt: &impl Abort, alloc: Global, device: MemBlocks, status: &[u8]) -> bool {
     let (_file, record) = RegFile::open(alloc, device).expect(rt, "a registration file");
     record.aptpl() && told(rt, alloc, record).as_slice() == status
-}
-
-/// A formatted file in memory.
-pub fn formatted(rt: &impl Abort, alloc: Global) -> RegFile<MemBlocks> {
-    let device = MemBlocks::new(alloc, FILE_BLOCKS).expect(rt, "memory");
-    RegFile::format(device).expect(rt, "a registration file")
 }
 
 /// The bytes of a block; zeros where it cannot be read.

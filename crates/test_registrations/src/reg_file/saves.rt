@@ -1,15 +1,13 @@
 //! A save and an open that stop at each of their calls in turn, over a file of either version, and a format.
-use crate::device::{Failing, FailingBlocks, crashed};
 use crate::ends::must;
-use crate::reg_file::files::{
-    OPEN_CALLS, SAVE_CALLS, block_of, holds, put, put_bytes, registry_after,
-};
+use crate::reg_file::files::{SAVE_CALLS, block_of, holds, put, put_bytes, registry_after};
 use aptpl_file::{FILE_BLOCKS, OpenFault, RegFile, SaveFault};
 use block_file::{Blocks, MemBlocks};
 use crash_blocks::Pick;
 use std::alloc::Global;
 use std::process::Abort;
 use test_connections::bytes_of;
+use test_devices::{Failing, FailingBlocks, OPEN_CALLS, crashed};
 
 // The blocks of a file of version 1, as the program before this one left it: `iqn.2000-01.test:a`, ISID 400001370000h, has
 // registered 11h with APTPL through group 1. In version 2 it differs in the version alone. Block 0 is the root, block 34 the slot, and

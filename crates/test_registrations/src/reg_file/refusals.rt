@@ -1,12 +1,12 @@
 //! Files that are refused, and why.
 use crate::ends::{fail, must};
-use crate::reg_file::files::{formatted, put, registry_after};
-use crate::rows::part;
+use crate::reg_file::files::{put, registry_after};
 use aptpl_file::{OpenFault, RegFile};
 use block_file::MemBlocks;
 use std::alloc::Global;
 use std::process::Abort;
 use test_connections::lines_of;
+use test_devices::formatted;
 
 // Each begins with a device: that of a file after these requests, or so many blocks of zeros. Then come rows: a name; the bytes that are
 // put into the device, each by its block, its place there and, in hexadecimal, its value; and why the file is refused, or that it opens.
@@ -88,7 +88,7 @@ fn device(rt: &impl Abort, alloc: Global, words: &str) -> MemBlocks {
     if let Some(blocks) = words.strip_suffix(" blocks") {
         return MemBlocks::new(alloc, blocks.parse().expect(rt, words)).expect(rt, "memory");
     }
-    let mut file = formatted(rt, alloc);
+    let mut file = formatted(alloc).expect(rt, "a registration file");
     let registry = registry_after(rt, alloc, words);
     let _ = file.save(&registry.lasting());
     file.close()
@@ -130,8 +130,10 @@ fn are_refused(rt: &impl Abort, alloc: Global, table: &str) {
 
 // So does a row of a device.
 fn is_refused(rt: &impl Abort, alloc: Global, words: &str, row: &str) {
-    let fault = fault_of(rt, alloc, words, part(row, 1));
-    let is_right = fault == fault_named(rt, part(row, 2).trim());
+    let (_name, rest) = row.split_once(';').expect(rt, row);
+    let (puts, why) = rest.split_once(';').expect(rt, row);
+    let fault = fault_of(rt, alloc, words, puts);
+    let is_right = fault == fault_named(rt, why.trim());
     must(rt, is_right, row, &fault);
 }
 

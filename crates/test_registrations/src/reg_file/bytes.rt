@@ -1,13 +1,14 @@
 //! The bytes of a file, as they stand in the format.
 use crate::ends::must;
-use crate::reg_file::files::{block_of, formatted, put};
-use crate::rules::registrations::run::out;
+use crate::reg_file::files::{block_of, put};
+use crate::run::out;
 use aptpl_file::{FILE_BLOCKS, RegFile};
 use block_file::{Blocks, MemBlocks};
 use reservations::Registry;
 use std::alloc::Global;
 use std::process::Abort;
 use test_connections::lines_of;
+use test_devices::formatted;
 
 // Requests, each of which is saved, and how blocks of the file begin then: a block, a place in it, and bytes that stand there. The
 // rest of a block is zeros, and so is each block that is not named.
@@ -100,7 +101,7 @@ fn save(
 
 // The blocks after a save behind each request.
 fn saved(rt: &impl Abort, alloc: Global, lines: &[&str]) -> MemBlocks {
-    let mut file = formatted(rt, alloc);
+    let mut file = formatted(alloc).expect(rt, "a registration file");
     let mut registry = Registry::new(alloc).expect(rt, "memory");
     for line in lines {
         if let Some(request) = line.strip_prefix("> ") {

@@ -1,4 +1,4 @@
-//! The devices of a unit that a script plays on.
+//! Devices that fail.
 use block_file::{FusedBlocks, MemBlocks};
 use crash_blocks::{CrashBlocks, Pick};
 use std::alloc::{AllocError, Global};

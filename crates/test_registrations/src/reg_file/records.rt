@@ -1,6 +1,6 @@
 //! What a file says to a restart, as READ FULL STATUS tells it then (SPC-4, 6.15.5).
 use crate::ends::must;
-use crate::reg_file::files::{formatted, holds, put};
+use crate::reg_file::files::{holds, put};
 use aptpl_file::FILE_BLOCKS;
 use block_file::MemBlocks;
 use reservations::{PrEnd, PrOut, Registry};
@@ -8,6 +8,7 @@ use scsi_types::{Group, PortName, PrOutAction};
 use std::alloc::Global;
 use std::process::Abort;
 use test_connections::bytes_of;
+use test_devices::formatted;
 
 // The blocks of a file of version 1 with two registrants, of which the second holds a reservation of type 3: its entry is told by its
 // place alone, and byte 12 is 0.
@@ -114,7 +115,7 @@ fn status_of_many(rt: &impl Abort, alloc: Global, kind: u8) -> Vec<u8> {
 
 // They are saved, and there behind a restart.
 fn outlast(rt: &impl Abort, alloc: Global, kind: u8) {
-    let mut file = formatted(rt, alloc);
+    let mut file = formatted(alloc).expect(rt, "a registration file");
     let registry = registry_of_many(rt, alloc, kind);
     must(rt, file.save(&registry.lasting()).is_ok(), "a save", &kind);
     let status = status_of_many(rt, alloc, kind);
