@@ -3,4 +3,4 @@
 
 mod wanted;
 
-pub use wanted::want;
+pub use wanted::{want, want_at};

@@ -1,8 +1,7 @@
 //! How calls of a unit end, as a row says it.
 use access_states::{AsetFault, Change};
 use scsi_types::{Group, Reply, Status};
-use std::alloc::Global;
-use std::process::Abort;
+use std::alloc::{AllocError, Global};
 use unit_state::{MoveFault, StepEnd};
 
 /// How a call ended: its word, and behind that a number, as that of a group, or the bytes of data or of sense.
@@ -28,34 +27,34 @@ pub fn numbered(alloc: Global, word: &'static str, number: u64) -> Ended {
 }
 
 /// The end of a command.
-pub fn stepped(rt: &impl Abort, alloc: Global, end: &StepEnd) -> Ended {
-    match end {
-        StepEnd::Reply(reply) => replied(rt, alloc, reply),
+pub fn stepped(alloc: Global, end: &StepEnd) -> Result<Ended, AllocError> {
+    Ok(match end {
+        StepEnd::Reply(reply) => return replied(alloc, reply),
         StepEnd::Moved(owner) => numbered(alloc, "MOVED", number(*owner)),
         StepEnd::Gone => worded(alloc, "GONE"),
         StepEnd::NoMemory => worded(alloc, "no memory"),
-    }
+    })
 }
 
 // A reply.
-fn replied(rt: &impl Abort, alloc: Global, reply: &Reply) -> Ended {
+fn replied(alloc: Global, reply: &Reply) -> Result<Ended, AllocError> {
     match (reply.status(), reply.sense()) {
-        (Status::Good, None) => told(rt, alloc, "GOOD", reply.bytes()),
-        (Status::ReservationConflict, None) => told(rt, alloc, "CONFLICT", reply.bytes()),
+        (Status::Good, None) => told(alloc, "GOOD", reply.bytes()),
+        (Status::ReservationConflict, None) => told(alloc, "CONFLICT", reply.bytes()),
         (Status::CheckCondition, Some(sense)) if reply.bytes().is_empty() => {
-            told(rt, alloc, "CHECK", sense.to_bytes().as_slice())
+            told(alloc, "CHECK", sense.to_bytes().as_slice())
         }
-        _ => worded(alloc, "another reply"),
+        _ => Ok(worded(alloc, "another reply")),
     }
 }
 
 // An end of a word and bytes.
-fn told(rt: &impl Abort, alloc: Global, word: &'static str, bytes: &[u8]) -> Ended {
-    Ended {
+fn told(alloc: Global, word: &'static str, bytes: &[u8]) -> Result<Ended, AllocError> {
+    Ok(Ended {
         word,
         number: 0,
-        bytes: Vec::from_slice(alloc, bytes).expect(rt, "memory"),
-    }
+        bytes: Vec::from_slice(alloc, bytes)?,
+    })
 }
 
 /// The end of a move.

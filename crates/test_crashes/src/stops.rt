@@ -1,11 +1,11 @@
 //! The power is lost at each call of a device.
-use crate::ends::{fail, must};
-use crate::stops::calls::{Does, Reach};
-use crate::stops::power::lose;
-use crate::stops::script::{Device, Script, Stop};
+use crate::calls::{Does, Reach};
+use crate::power::lose;
+use crate::script::{Device, Script, Stop};
 use std::alloc::Global;
-use std::process::Abort;
+use std::test::*;
 use test_connections::filled;
+use test_wants::want_at;
 
 // Scripts, and where each loses the power: at each call of a device from this one on and behind the last, so many times.
 fn scripts() -> &'static str {
@@ -71,16 +71,16 @@ the flush of the root fails; 4 42; 3; 34+33=1 flush 0+1=1; 0+1=0 flush";
 
 // Loses the power at each call of a device from this one on, inside a run behind each number of its blocks, and once
 // where no call fails. Gives the number of stops.
-fn lose_at_each(rt: &impl Abort, alloc: Global, script: &Script, of: Device, from: usize) -> u64 {
+fn lose_at_each(alloc: Global, script: &Script, of: Device, from: usize) -> Result<u64, Fail> {
     let mut stops = 0u64;
     for calls in from..script.calls(of).len().saturating_add(1) {
         for landed in 0..landings(script, of, calls) {
             let reach = Reach { calls, landed };
-            lose(rt, alloc, script, Stop { of, reach });
+            lose(alloc, script, Stop { of, reach })?;
             stops = stops.wrapping_add(1);
         }
     }
-    stops
+    Ok(stops)
 }
 
 // In how many ways a call may fail: a write behind each number of its blocks.
@@ -95,42 +95,43 @@ fn landings(script: &Script, of: Device, place: usize) -> u32 {
 }
 
 // Loses the power as these words of a script say.
-fn loses(rt: &impl Abort, alloc: Global, script: &Script, words: &str) {
-    let (of, rest) = words.split_once(' ').expect(rt, words);
-    let (from, count) = rest.split_once(' ').expect(rt, words);
+fn loses(alloc: Global, script: &Script, words: &str) -> Result<(), Fail> {
+    let (of, rest) = words.split_once(' ').ok_or(words)?;
+    let (from, count) = rest.split_once(' ').ok_or(words)?;
     let of = match of {
         "blocks" => Device::Blocks,
         "registrations" => Device::Registrations,
-        _ => fail(rt, words, &"no device"),
+        _ => return Err(words.into()),
     };
-    let stops = lose_at_each(rt, alloc, script, of, from.parse().expect(rt, words));
-    let is_right = count.parse::<u64>().expect(rt, words) == stops;
-    must(rt, is_right, script.setup.script, &(words, stops));
+    let stops = lose_at_each(alloc, script, of, from.parse().ok().ok_or(words)?)?;
+    let is_right = count.parse::<u64>().ok().ok_or(words)? == stops;
+    want_at(is_right, script.setup.script, &(words, stops))
 }
 
 // Loses the power as each line of a script says that does.
-fn each_loses(rt: &impl Abort, alloc: Global, text: &str) {
-    let script = Script::read(rt, alloc, text);
+fn each_loses(alloc: Global, text: &str) -> Result<(), Fail> {
+    let script = Script::read(alloc, text)?;
     let mut has_stop = false;
     for line in text.lines() {
         if let Some(words) = line.strip_prefix("loses ") {
-            loses(rt, alloc, &script, words);
+            loses(alloc, &script, words)?;
             has_stop = true;
         }
     }
-    must(rt, has_stop, text, &"a script loses the power");
+    want_at(has_stop, text, &"a script loses the power")
 }
 
 #[test]
-fn at_each_call_of_a_device(rt: HostRuntime) {
+fn at_each_call_of_a_device(rt: HostRuntime) -> Result<(), Fail> {
     for text in scripts().split("\n\n") {
-        each_loses(&rt, rt.alloc(), text);
+        each_loses(rt.alloc(), text)?;
     }
     let (form, lines) = failing_saves();
     let has_rows = !lines.trim().is_empty();
-    must(&rt, has_rows, "failing saves", &"a table has rows");
+    want_at(has_rows, "failing saves", &"a table has rows")?;
     for parts in lines.lines() {
-        let text = filled(rt.alloc(), form, parts).expect(&rt, parts);
-        each_loses(&rt, rt.alloc(), text.as_str());
+        let text = filled(rt.alloc(), form, parts)?;
+        each_loses(rt.alloc(), text.as_str())?;
     }
+    Ok(())
 }

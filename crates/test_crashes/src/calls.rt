@@ -1,7 +1,7 @@
 //! The calls that a script makes of a device, and the values that its blocks had since the last flush.
 use crash_blocks::Pick;
 use std::alloc::Global;
-use std::process::Abort;
+use std::test::Fail;
 
 /// What a call does.
 #[derive(Clone, Copy)]
@@ -30,27 +30,28 @@ pub struct Reach {
 
 /// Appends the calls of a row that these words say: `read`, `flush`, `fails` for a call that fails and changes nothing, and `1+2=3` for
 /// a write of two blocks from block 1 on, which then have the value of number 3.
-pub fn put_calls(rt: &impl Abort, calls: &mut Vec<Call>, command: usize, words: &str) {
+pub fn put_calls(calls: &mut Vec<Call>, command: usize, words: &str) -> Result<(), Fail> {
     for word in words.split_ascii_whitespace() {
         let does = match word {
             "read" => Does::Reads,
             "flush" => Does::Flushes,
             "fails" => Does::Fails,
-            _ => write_of(rt, word),
+            _ => write_of(word).ok_or(words)?,
         };
-        calls.push(Call { command, does }).expect(rt, "memory");
+        calls.push(Call { command, does })?;
     }
+    Ok(())
 }
 
 // The write of this word.
-fn write_of(rt: &impl Abort, word: &str) -> Does {
-    let (run, value) = word.split_once('=').expect(rt, word);
-    let (first, blocks) = run.split_once('+').expect(rt, word);
-    Does::Writes {
-        first: first.parse().expect(rt, word),
-        blocks: blocks.parse().expect(rt, word),
-        value: u8::from_str_radix(value, 16).expect(rt, word),
-    }
+fn write_of(word: &str) -> Option<Does> {
+    let (run, value) = word.split_once('=')?;
+    let (first, blocks) = run.split_once('+')?;
+    Some(Does::Writes {
+        first: first.parse().ok()?,
+        blocks: blocks.parse().ok()?,
+        value: u8::from_str_radix(value, 16).ok()?,
+    })
 }
 
 // How many blocks of a run of so many landed, by the place of its call.
@@ -65,15 +66,9 @@ fn landed(reach: Reach, place: usize, blocks: u32) -> u32 {
 }
 
 /// The values that a block had since the last flush that was done, the oldest first. At first it has the value of number 0.
-pub fn values_of(
-    rt: &impl Abort,
-    alloc: Global,
-    calls: &[Call],
-    reach: Reach,
-    block: u32,
-) -> Vec<u8> {
+pub fn values_of(alloc: Global, calls: &[Call], reach: Reach, block: u32) -> Result<Vec<u8>, Fail> {
     let mut values = Vec::new(alloc);
-    values.push(0).expect(rt, "memory");
+    values.push(0)?;
     let mut place = 0usize;
     for call in calls {
         match call.does {
@@ -84,7 +79,7 @@ pub fn values_of(
             } => {
                 let landed = landed(reach, place, blocks);
                 if block >= first && block < first.saturating_add(landed) {
-                    values.push(value).expect(rt, "memory");
+                    values.push(value)?;
                 }
             }
             Does::Flushes if place < reach.calls => keep_last(&mut values),
@@ -92,7 +87,7 @@ pub fn values_of(
         }
         place = place.wrapping_add(1);
     }
-    values
+    Ok(values)
 }
 
 // Drops all but the last.

@@ -2,14 +2,14 @@
 use crate::ended::{Ended, moved, numbered, stepped, worded};
 use block_file::{Blocks, Opener, ReplyMemory};
 use scsi_types::{Asked, Group, PortName};
-use std::alloc::Global;
-use std::process::Abort;
+use std::alloc::{AllocError, Global};
+use std::test::Fail;
 use unit_state::{AttachFault, SessionId, Unit};
 
 /// The calls of a unit. Of their ends nothing is promised here, so that what plays a script owes nothing to the contracts of a unit.
 pub trait AnyUnit: Drop {
     /// Attaches the port of an ISID of six bytes.
-    fn attach(&mut self, rt: &impl Abort, alloc: Global, isid: u64, group: Group) -> Ended;
+    fn attach(&mut self, alloc: Global, isid: u64, group: Group) -> Result<Ended, Fail>;
 
     /// Detaches a session, or resets the unit by it.
     fn end(&mut self, alloc: Global, session: SessionId, detaches: bool) -> Ended;
@@ -17,12 +17,11 @@ pub trait AnyUnit: Drop {
     /// A command of a session with a serial, by a group.
     fn step(
         &mut self,
-        rt: &impl Abort,
         alloc: Global,
         sender: (SessionId, u64, Group),
         asked: Asked,
         bytes: &[u8],
-    ) -> Ended;
+    ) -> Result<Ended, AllocError>;
 
     fn move_to(&mut self, alloc: Global, list: &[u8]) -> Ended;
 
@@ -30,15 +29,13 @@ pub trait AnyUnit: Drop {
 }
 
 impl<B: Blocks, F: Blocks, O: Opener<B>> AnyUnit for Unit<B, F, O> {
-    fn attach(&mut self, rt: &impl Abort, alloc: Global, isid: u64, group: Group) -> Ended {
-        let name = b"iqn.2026-01.example:host"
-            .to_vec(alloc)
-            .expect(rt, "memory");
-        let port = PortName::new(name, isid).expect(rt, "an ISID of six bytes");
-        match Unit::attach(self, port, group) {
+    fn attach(&mut self, alloc: Global, isid: u64, group: Group) -> Result<Ended, Fail> {
+        let name = b"iqn.2026-01.example:host".to_vec(alloc)?;
+        let port = PortName::new(name, isid).ok_or("an ISID of six bytes")?;
+        Ok(match Unit::attach(self, port, group) {
             Ok(id) => numbered(alloc, "ATTACHED", id),
             Err(AttachFault::TooManySessions) => worded(alloc, "TOO-MANY"),
-        }
+        })
     }
 
     fn end(&mut self, alloc: Global, session: SessionId, detaches: bool) -> Ended {
@@ -52,12 +49,11 @@ impl<B: Blocks, F: Blocks, O: Opener<B>> AnyUnit for Unit<B, F, O> {
 
     fn step(
         &mut self,
-        rt: &impl Abort,
         alloc: Global,
         sender: (SessionId, u64, Group),
         asked: Asked,
         bytes: &[u8],
-    ) -> Ended {
+    ) -> Result<Ended, AllocError> {
         let (session, serial, by) = sender;
         let end = Unit::step(
             self,
@@ -68,7 +64,7 @@ impl<B: Blocks, F: Blocks, O: Opener<B>> AnyUnit for Unit<B, F, O> {
             asked,
             bytes,
         );
-        stepped(rt, alloc, &end)
+        stepped(alloc, &end)
     }
 
     fn move_to(&mut self, alloc: Global, list: &[u8]) -> Ended {

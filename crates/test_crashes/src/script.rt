@@ -1,12 +1,11 @@
 //! The scripts, and what is known of them.
-use crate::bench::Setup;
-use crate::ends::must;
-use crate::rows::{is_row, part, setup_of};
-use crate::stops::calls::{Call, Does, Reach, picked, put_calls, values_of};
+use crate::calls::{Call, Does, Reach, picked, put_calls, values_of};
 use crash_blocks::Pick;
 use std::alloc::Global;
-use std::process::Abort;
+use std::test::Fail;
 use test_connections::lines_of;
+use test_scripts::{Setup, is_row, part, setup_of};
+use test_wants::want_at;
 
 // Whether a line says what no stop looks at.
 fn is_passed_over(line: &str) -> bool {
@@ -43,31 +42,32 @@ pub struct Script<'a> {
 
 impl<'a> Script<'a> {
     /// The script of this text.
-    pub fn read(rt: &impl Abort, alloc: Global, text: &'a str) -> Script<'a> {
-        let mut lines = lines_of(alloc, text).expect(rt, "memory");
+    pub fn read(alloc: Global, text: &'a str) -> Result<Script<'a>, Fail> {
+        let mut lines = lines_of(alloc, text)?;
         lines.retain(|line| !line.starts_with("loses "));
         let mut script = Script {
-            setup: setup_of(rt, &lines, 0),
+            setup: setup_of(&lines, 0)?,
             rows: Vec::new(alloc),
             blocks: Vec::new(alloc),
             registrations: Vec::new(alloc),
         };
         for line in &lines {
             if is_row(line) {
-                script.add(rt, *line);
+                script.add(*line)?;
             }
             let is_looked_at = *line == script.setup.script || !is_passed_over(line);
-            must(rt, is_looked_at, text, line);
+            want_at(is_looked_at, text, line)?;
         }
-        script
+        Ok(script)
     }
 
     // Adds a row.
-    fn add(&mut self, rt: &impl Abort, row: &'a str) {
+    fn add(&mut self, row: &'a str) -> Result<(), Fail> {
         let at = self.rows.len();
-        put_calls(rt, &mut self.blocks, at, part(row, 4));
-        put_calls(rt, &mut self.registrations, at, part(row, 5));
-        self.rows.push(row).expect(rt, "memory");
+        put_calls(&mut self.blocks, at, part(row, 4))?;
+        put_calls(&mut self.registrations, at, part(row, 5))?;
+        self.rows.push(row)?;
+        Ok(())
     }
 
     /// The calls of a device.
@@ -125,13 +125,12 @@ impl<'a> Script<'a> {
     /// The value that is left of a block of a device.
     pub fn left(
         &self,
-        rt: &impl Abort,
         alloc: Global,
         (of, block): (Device, u32),
         stop: Stop,
         pick: Pick,
-    ) -> u64 {
-        let values = values_of(rt, alloc, self.calls(of), self.reach(of, stop), block);
-        u64::from(picked(&values, block, pick).expect(rt, "a value"))
+    ) -> Result<u64, Fail> {
+        let values = values_of(alloc, self.calls(of), self.reach(of, stop), block)?;
+        Ok(u64::from(picked(&values, block, pick).ok_or("a value")?))
     }
 }

@@ -1,12 +1,10 @@
 //! The power is lost: a script comes so far, a crash follows, and a restart.
-use crate::bench::{Bench, Setup};
-use crate::ends::must;
-use crate::rows::Row;
-use crate::run::{make, played};
-use crate::stops::script::{Device, Script, Stop};
+use crate::script::{Device, Script, Stop};
 use crash_blocks::Pick;
 use std::alloc::Global;
-use std::process::Abort;
+use std::test::Fail;
+use test_scripts::{Bench, Row, Setup, make, played};
+use test_wants::want_at;
 
 /// What a crash leaves: of each block the value that these pick.
 const PICKS: [Pick; 4] = [
@@ -70,13 +68,13 @@ struct Loss<'s, 'a> {
 
 impl Loss<'_, '_> {
     // The number of the value that a block of a device has behind it.
-    fn left(&self, rt: &impl Abort, alloc: Global, at: (Device, u32)) -> u64 {
-        self.script.left(rt, alloc, at, self.stop, self.setup.pick)
+    fn left(&self, alloc: Global, at: (Device, u32)) -> Result<u64, Fail> {
+        self.script.left(alloc, at, self.stop, self.setup.pick)
     }
 }
 
 /// Loses the power there, with each crash.
-pub fn lose(rt: &impl Abort, alloc: Global, script: &Script, stop: Stop) {
+pub fn lose(alloc: Global, script: &Script, stop: Stop) -> Result<(), Fail> {
     for pick in &PICKS {
         let setup = &script.setup(stop, *pick);
         let loss = Loss {
@@ -84,40 +82,42 @@ pub fn lose(rt: &impl Abort, alloc: Global, script: &Script, stop: Stop) {
             stop,
             setup,
         };
-        lose_by(rt, alloc, &loss);
+        lose_by(alloc, &loss)?;
     }
+    Ok(())
 }
 
 // Plays the unit of a script up to a stop, and looks at what a restart finds.
-fn lose_by(rt: &impl Abort, alloc: Global, loss: &Loss<'_, '_>) {
-    let mut bench = Bench::open(rt, alloc, loss.setup);
-    play_up_to(rt, alloc, &mut bench, loss);
-    let bench = bench.restart(rt, alloc, loss.setup);
-    let record = loss.left(rt, alloc, (Device::Registrations, 0));
+fn lose_by(alloc: Global, loss: &Loss<'_, '_>) -> Result<(), Fail> {
+    let mut bench = Bench::open(alloc, loss.setup)?;
+    play_up_to(alloc, &mut bench, loss)?;
+    let bench = bench.restart(alloc, loss.setup)?;
+    let record = loss.left(alloc, (Device::Registrations, 0))?;
     let rows = found();
-    must(rt, !rows.trim().is_empty(), "found", &"a table has rows");
-    let mut bench = played(rt, alloc, bench, loss.setup, rows, record);
-    look_at_blocks(rt, alloc, &mut bench, loss);
+    want_at(!rows.trim().is_empty(), "found", &"a table has rows")?;
+    let mut bench = played(alloc, bench, loss.setup, rows, record)?;
+    look_at_blocks(alloc, &mut bench, loss)
 }
 
 // Plays a script up to a stop.
-fn play_up_to(rt: &impl Abort, alloc: Global, bench: &mut Bench, loss: &Loss<'_, '_>) {
+fn play_up_to(alloc: Global, bench: &mut Bench, loss: &Loss<'_, '_>) -> Result<(), Fail> {
     let (last, end) = loss.script.last(loss.stop);
     for (place, text) in loss.script.rows.iter().enumerate() {
         if place <= last {
             let n = if place == last { end } else { 0 };
-            make(rt, alloc, bench, loss.setup, &Row { text: *text, n });
+            make(alloc, bench, loss.setup, &Row { text: *text, n })?;
         }
     }
+    Ok(())
 }
 
 // Each block has the value that was left.
-fn look_at_blocks(rt: &impl Abort, alloc: Global, bench: &mut Bench, loss: &Loss<'_, '_>) {
+fn look_at_blocks(alloc: Global, bench: &mut Bench, loss: &Loss<'_, '_>) -> Result<(), Fail> {
     let mut block = 0u32;
     for text in blocks().trim().lines() {
-        let n = loss.left(rt, alloc, (Device::Blocks, block));
-        make(rt, alloc, bench, loss.setup, &Row { text, n });
+        let n = loss.left(alloc, (Device::Blocks, block))?;
+        make(alloc, bench, loss.setup, &Row { text, n })?;
         block = block.wrapping_add(1);
     }
-    must(rt, block > 0, "blocks", &"a table has rows");
+    want_at(block > 0, "blocks", &"a table has rows")
 }

@@ -31,13 +31,13 @@
 //! call. What was written last is there behind a restart.
 //! `written 1 5A`: afterwards this block is of this byte; all others are of zeros.
 use crate::bench::{Faults, NO_FAULTS, Setup};
-use crate::ends::{fail, must};
 use crash_blocks::Pick;
 use scsi_types::Place;
 use std::alloc::Global;
-use std::process::Abort;
-use test_connections::{Texts, bytes_of};
+use std::test::Fail;
+use test_connections::{RowError, Texts, bytes_of};
 use test_devices::Failing;
+use test_wants::want_at;
 
 /// The TransportIDs of two ports, behind their first four bytes (SPC-4, 7.6.4.6).
 const TEXTS: Texts = &[
@@ -60,8 +60,8 @@ impl<'a> Row<'a> {
     }
 
     /// The data of the call.
-    pub fn data(&self, rt: &impl Abort, alloc: Global) -> Vec<u8> {
-        spelled(rt, alloc, self.own(part(self.text, 2)))
+    pub fn data(&self, alloc: Global) -> Result<Vec<u8>, RowError> {
+        spelled(alloc, self.own(part(self.text, 2)))
     }
 
     /// How it is to end: a word, and what comes behind.
@@ -75,13 +75,13 @@ impl<'a> Row<'a> {
     }
 
     /// The number that a word says.
-    pub fn number(&self, rt: &impl Abort, word: &str) -> u64 {
-        match word {
+    pub fn number(&self, word: &str) -> Result<u64, Fail> {
+        Ok(match word {
             "N" => self.n,
             "3N" => self.n.wrapping_mul(3),
             "always" => u64::MAX,
-            _ => word.parse().expect(rt, self.text),
-        }
+            _ => word.parse().ok().ok_or(self.text)?,
+        })
     }
 }
 
@@ -97,21 +97,21 @@ fn words_of(part: &str) -> (&str, &str) {
 }
 
 /// The bytes of these parts.
-pub fn spelled(rt: &impl Abort, alloc: Global, words: &str) -> Vec<u8> {
-    bytes_of(alloc, TEXTS, words).expect(rt, words)
+pub fn spelled(alloc: Global, words: &str) -> Result<Vec<u8>, RowError> {
+    bytes_of(alloc, TEXTS, words)
 }
 
 /// The CDB of these digits, with this byte at each place behind.
-pub fn cdb_of(rt: &impl Abort, alloc: Global, digits: &str, behind: u8) -> [u8; 16] {
-    let bytes = spelled(rt, alloc, digits);
+pub fn cdb_of(alloc: Global, digits: &str, behind: u8) -> Result<[u8; 16], RowError> {
+    let bytes = spelled(alloc, digits)?;
     let mut cdb = [behind; 16];
     let len = bytes.len().min(16);
     cdb[..len].copy_from_slice(&bytes[..len]);
-    cdb
+    Ok(cdb)
 }
 
 /// The unit that the lines of a script say, where it is played for this number.
-pub fn setup_of<'a>(rt: &impl Abort, lines: &[&'a str], n: u64) -> Setup<'a> {
+pub fn setup_of<'a>(lines: &[&'a str], n: u64) -> Result<Setup<'a>, Fail> {
     let mut setup = Setup {
         script: lines.first().copied().unwrap_or(""),
         times: 1,
@@ -132,10 +132,10 @@ pub fn setup_of<'a>(rt: &impl Abort, lines: &[&'a str], n: u64) -> Setup<'a> {
     };
     for line in lines.get(1..).unwrap_or(&[]) {
         if !is_row(line) {
-            take(rt, &mut setup, &Row { text: *line, n });
+            take(&mut setup, &Row { text: *line, n })?;
         }
     }
-    setup
+    Ok(setup)
 }
 
 /// Whether a line is a row.
@@ -144,46 +144,50 @@ pub fn is_row(line: &str) -> bool {
 }
 
 // Takes what a line says of the unit.
-fn take(rt: &impl Abort, setup: &mut Setup, line: &Row) {
+fn take(setup: &mut Setup, line: &Row) -> Result<(), Fail> {
     let (word, rest) = words_of(line.text);
     match word {
-        "unit" => setup.place.unit = rest.parse().expect(rt, line.text),
-        "blocks" => setup.blocks = rest.parse().expect(rt, line.text),
-        "calls" => setup.faults.disk.behind = line.number(rt, rest),
-        "lands" => setup.faults.disk.lands = rest.parse().expect(rt, line.text),
-        "opens" => setup.faults.opens = line.number(rt, rest),
-        "saves" => setup.faults.file.behind = line.number(rt, rest),
-        "alone" => setup.faults.file.alone = line.number(rt, rest),
-        "each" => setup.times = line.number(rt, rest),
+        "unit" => setup.place.unit = rest.parse().ok().ok_or(line.text)?,
+        "blocks" => setup.blocks = rest.parse().ok().ok_or(line.text)?,
+        "calls" => setup.faults.disk.behind = line.number(rest)?,
+        "lands" => setup.faults.disk.lands = rest.parse().ok().ok_or(line.text)?,
+        "opens" => setup.faults.opens = line.number(rest)?,
+        "saves" => setup.faults.file.behind = line.number(rest)?,
+        "alone" => setup.faults.file.alone = line.number(rest)?,
+        "each" => setup.times = line.number(rest)?,
         "written" | "numbers" => {}
-        _ => fail(rt, line.text, &"no line of a script"),
+        _ => return Err(line.text.into()),
     }
+    Ok(())
 }
 
 // The block that a line says is written, and the byte of which it is afterwards; none where it is no such line.
-fn written_by(rt: &impl Abort, line: &str) -> Option<(u32, u8)> {
-    let words = line.strip_prefix("written ")?;
-    let (index, byte) = words.split_once(' ').expect(rt, line);
-    let byte = u8::from_str_radix(byte, 16).expect(rt, line);
-    Some((index.parse().expect(rt, line), byte))
+fn written_by(line: &str) -> Result<Option<(u32, u8)>, Fail> {
+    let Some(words) = line.strip_prefix("written ") else {
+        return Ok(None);
+    };
+    let (index, byte) = words.split_once(' ').ok_or(line)?;
+    let byte = u8::from_str_radix(byte, 16).ok().ok_or(line)?;
+    Ok(Some((index.parse().ok().ok_or(line)?, byte)))
 }
 
 /// The byte of which a block is afterwards.
-pub fn written_at(rt: &impl Abort, lines: &[&str], block: u32) -> u8 {
+pub fn written_at(lines: &[&str], block: u32) -> Result<u8, Fail> {
     for line in lines {
-        match written_by(rt, line) {
-            Some((index, byte)) if index == block => return byte,
+        match written_by(line)? {
+            Some((index, byte)) if index == block => return Ok(byte),
             _ => {}
         }
     }
-    0
+    Ok(0)
 }
 
 /// What is written lies in a device of so many blocks.
-pub fn are_within(rt: &impl Abort, lines: &[&str], count: u32) {
+pub fn are_within(lines: &[&str], count: u32) -> Result<(), Fail> {
     for line in lines {
-        if let Some((index, _)) = written_by(rt, line) {
-            must(rt, index < count, line, &count);
+        if let Some((index, _)) = written_by(line)? {
+            want_at(index < count, line, &count)?;
         }
     }
+    Ok(())
 }

@@ -6,7 +6,7 @@ use block_file::{Blocks, DeviceFailed, FusedOpener, KeepOpener, MemBlocks};
 use crash_blocks::Pick;
 use scsi_types::Place;
 use std::alloc::Global;
-use std::process::Abort;
+use std::test::Fail;
 use test_devices::{Failing, FailingBlocks, OPEN_CALLS, crashed, formatted};
 use unit_state::Unit;
 
@@ -62,40 +62,37 @@ pub struct Bench {
 
 impl Bench {
     /// The unit of a script, with a registration file of nothing.
-    pub fn open(rt: &impl Abort, alloc: Global, setup: &Setup) -> Bench {
-        let blocks = MemBlocks::new(alloc, setup.blocks).expect(rt, "memory");
-        let file = formatted(alloc).expect(rt, "a registration file");
-        let file = file.close();
-        Bench::over(rt, alloc, setup.place, &setup.faults, blocks, file)
+    pub fn open(alloc: Global, setup: &Setup) -> Result<Bench, Fail> {
+        let blocks = MemBlocks::new(alloc, setup.blocks)?;
+        let file = formatted(alloc).ok_or("a registration file")?.close();
+        Bench::over(alloc, setup.place, &setup.faults, blocks, file)
     }
 
     // The unit that opens over this memory, of its blocks and of its registration file.
     fn over(
-        rt: &impl Abort,
         alloc: Global,
         place: Place,
         faults: &Faults,
         blocks: MemBlocks,
         file: MemBlocks,
-    ) -> Bench {
-        let blocks = faults.disk.device(alloc, blocks).expect(rt, "memory");
-        let file = from_the_open(faults.file).device(alloc, file);
-        let file = file.expect(rt, "memory");
+    ) -> Result<Bench, Fail> {
+        let blocks = faults.disk.device(alloc, blocks)?;
+        let file = from_the_open(faults.file).device(alloc, file)?;
         let opener = FusedOpener::new(KeepOpener, faults.opens);
-        Bench {
-            served: Served::open(rt, alloc, place, blocks, file, opener),
-        }
+        Ok(Bench {
+            served: Served::open(alloc, place, blocks, file, opener)?,
+        })
     }
 
     /// Makes the call of a row.
-    pub fn call(&mut self, rt: &impl Abort, alloc: Global, row: &Row) -> Ended {
-        self.served.call(rt, alloc, row)
+    pub fn call(&mut self, alloc: Global, row: &Row) -> Result<Ended, Fail> {
+        self.served.call(alloc, row)
     }
 
     /// The unit as it opens after a power loss: with the blocks and the registration file that were left. No call fails.
-    pub fn restart(self, rt: &impl Abort, alloc: Global, setup: &Setup) -> Bench {
+    pub fn restart(self, alloc: Global, setup: &Setup) -> Result<Bench, Fail> {
         let (blocks, file) = self.lose_power(setup.pick);
-        Bench::over(rt, alloc, setup.place, &NO_FAULTS, blocks, file)
+        Bench::over(alloc, setup.place, &NO_FAULTS, blocks, file)
     }
 
     /// The memory of the blocks, and of the registration file, as a loss of power leaves them.
