@@ -2,7 +2,6 @@
 //! that tests see plain values alone, and cost little to prove.
 use scsi_types::{Command, Group};
 use status::Row;
-use std::test::Fail;
 
 /// What a command or a move came to: a word, and a number behind it.
 #[derive(Clone, Copy)]
@@ -83,11 +82,6 @@ pub trait Array<S> {
 
     /// The desk closes.
     fn close(&self);
-}
-
-/// Fails, unless this holds.
-pub fn want(holds: bool, what: &'static str) -> Result<(), Fail> {
-    if holds { Ok(()) } else { Err(Fail::from(what)) }
 }
 
 /// A host of unit 0, which was attached by the first group and has been told of the power.

@@ -1,18 +1,9 @@
 //! How a test ends that finds something else than it wants. A library may not end the process, so each crate of tests has this itself.
-use std::fmt::Debug;
 use std::io::Eprint;
 use std::process::{Abort, Termination};
 use std::test::Fail;
 
-/// Ends the test unless this holds: where that was, and what came. A call of this takes fewer steps than an `assert!` with
-/// its own text, and so costs less to prove.
-pub fn must<D: Debug>(rt: &impl Abort, holds: bool, place: &str, came: &D) {
-    if !holds {
-        panic!(rt; "{place}: {came:?}");
-    }
-}
-
-/// Ends it where a call of this name failed, and tells of the failure.
+/// Ends the test where a call of this name failed, and tells of the failure.
 pub fn must_do<R: Abort + Eprint>(rt: &R, name: &str, came: Result<(), Fail>) {
     if let Err(fail) = came {
         let _ = Err::<(), Fail>(fail).report(rt);

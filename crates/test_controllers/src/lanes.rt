@@ -1,5 +1,5 @@
 //! A worker and a lane at one desk.
-use crate::any_array::{Array, want};
+use crate::any_array::Array;
 use crate::runs::run;
 use crate::stage::is_performed;
 use crate::tales::Tale;
@@ -7,6 +7,7 @@ use std::alloc::Global;
 use std::sync::Wait;
 use std::test::*;
 use std::thread::{Threads, join};
+use test_wants::want;
 
 // What the worker does: a write that a lane serves, and a read of the same block by another session, which serves it itself
 // unless the lane was first. Then jobs of both units at once, of which group 2 owns the second. At last unit 0 moves to group 2, so

@@ -1,16 +1,12 @@
-//! Tests of units that threads share (`histories`); of a desk and a lane; of units that move between the controllers of an array,
-//! by SET TARGET PORT GROUPS, by the array itself, and as a controller goes down; and of the pure world (`interleavings`). What happens
-//! stands in scripts, in rows of events, and in tales of what several threads do.
+//! Tests of units that threads share; of a desk and a lane; and of units that move between the controllers of an array, by SET TARGET
+//! PORT GROUPS, by the array itself, and as a controller goes down. What happens stands in scripts, and in tales of what several
+//! threads do.
 #![tactic(auto)]
 
 #[cfg(test)]
 mod any_array;
 #[cfg(test)]
 mod ends;
-#[cfg(test)]
-mod histories;
-#[cfg(test)]
-mod interleavings;
 #[cfg(test)]
 mod lanes;
 #[cfg(test)]
@@ -25,5 +21,7 @@ mod shared;
 mod stage;
 #[cfg(test)]
 mod tales;
+#[cfg(test)]
+mod threads;
 #[cfg(test)]
 mod waiting;

@@ -1,10 +1,11 @@
 //! Performs scripts.
-use crate::any_array::{Array, End, ended, want};
+use crate::any_array::{Array, End, ended};
 use crate::script::{command_of, group_of, list_of};
 use scsi_types::Group;
 use std::alloc::Global;
 use std::test::Fail;
 use test_connections::{bytes_of, lines_of};
+use test_wants::want;
 
 /// An array, and the hosts that use it, by their numbers.
 #[derive(Drop)]

@@ -1,8 +1,7 @@
 //! What is told of an array by its tests, and over which units.
 
 use crate::any_array::Array;
-use crate::histories::threads;
-use crate::{lanes, stage};
+use crate::{lanes, stage, threads};
 use std::alloc::Global;
 use std::sync::Wait;
 use std::test::Fail;

@@ -1,16 +1,9 @@
-//! Tests of a logical unit over its public calls: each table is a text with rows of what sessions ask, and of what is answered. Beside
-//! them stand a loss of power at each call of its devices, the registration file by itself, and the rules that stand below a unit
-//! (`rules`).
+//! Tests of a logical unit over its public calls: each table is a text with rows of what sessions ask, and of what is answered
+//! (`test_scripts`). Beside them stand the rules that stand below a unit (`rules`).
 #![tactic(auto)]
 
 #[cfg(test)]
 mod access;
-#[cfg(test)]
-mod bench;
-#[cfg(test)]
-mod device;
-#[cfg(test)]
-mod ended;
 #[cfg(test)]
 mod ends;
 #[cfg(test)]
@@ -24,22 +17,12 @@ mod lasting;
 #[cfg(test)]
 mod medium;
 #[cfg(test)]
-mod reg_file;
-#[cfg(test)]
-mod rows;
-#[cfg(test)]
 mod rules;
 #[cfg(test)]
 mod run;
 #[cfg(test)]
-mod served;
-#[cfg(test)]
 mod sessions;
 #[cfg(test)]
 mod states;
-#[cfg(test)]
-mod stops;
-#[cfg(test)]
-mod unit;
 #[cfg(test)]
 mod unit_attentions;

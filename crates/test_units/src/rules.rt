@@ -1,4 +1,3 @@
-//! Tests of what stands below a unit: what CDBs ask for, registrations, and calls that may want memory.
+//! Tests of what stands below a unit: what CDBs ask for, and calls that may want memory.
 mod ample;
-pub mod registrations;
 mod scsi;

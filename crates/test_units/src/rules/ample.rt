@@ -1,7 +1,6 @@
 //! Calls that may want memory, each with enough of it. More of what a unit says of itself stands in `identities.rt` and
 //! `access.rt`.
 use crate::ends::must;
-use crate::rows::cdb_of;
 use access_states::AccessMap;
 use identity::{
     absent, inquiry, mode_sense, read_capacity_10, read_capacity_16, report_luns, request_sense,
@@ -13,6 +12,7 @@ use scsi_types::{
 use std::alloc::Global;
 use std::process::Abort;
 use test_connections::{bytes_of, lines_of};
+use test_scripts::cdb_of;
 
 /// The last of eight units.
 const PLACE: Place = Place {
@@ -103,7 +103,7 @@ fn has(rt: &impl Abort, alloc: Global, reply: &Reply, want: &str) -> bool {
 // A unit that is not there answers as a row says.
 fn answers(rt: &impl Abort, alloc: Global, row: &str) {
     let (digits, want) = row.split_once(';').expect(rt, row);
-    let cdb = cdb_of(rt, alloc, digits, 0xEE);
+    let cdb = cdb_of(alloc, digits, 0xEE).expect(rt, digits);
     let reply = absent(alloc, &decode(&cdb)).expect(rt, row);
     let is_right = has(rt, alloc, &reply, want.trim());
     must(rt, is_right, row, &reply);

@@ -1,12 +1,12 @@
 //! CDBs, and what they ask for, as lines of text: a name, a CDB in hexadecimal digits, and what it asks for in the form of `Debug`
 //! without its commas, and with its numbers in hexadecimal digits too. The bytes behind the end of a CDB are EEh.
 use crate::ends::must;
-use crate::rows::{cdb_of, part};
 use crate::rules::scsi::{commands, faults};
 use scsi_types::decode;
 use std::alloc::Global;
 use std::process::Abort;
 use test_connections::lines_of;
+use test_scripts::{cdb_of, part};
 
 // Each CDB asks for what stands beside it.
 fn ask(rt: &impl Abort, alloc: Global, rows: &str) {
@@ -20,7 +20,8 @@ fn ask(rt: &impl Abort, alloc: Global, rows: &str) {
 // The CDB of a row does.
 fn asks(rt: &impl Abort, alloc: Global, row: &str) {
     must(rt, part(row, 3).is_empty(), row, &"more parts than three");
-    let asked = decode(&cdb_of(rt, alloc, part(row, 1), 0xEE));
+    let cdb = cdb_of(alloc, part(row, 1), 0xEE).expect(rt, row);
+    let asked = decode(&cdb);
     let text = format!(in alloc; "{asked:?}").expect(rt, "memory");
     let text = in_hexadecimal(rt, alloc, text.as_str());
     let is_right = text.as_str().trim() == part(row, 2).trim();

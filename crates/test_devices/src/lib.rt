@@ -1,0 +1,9 @@
+//! What tests of units and of registration files share: devices in memory that fail, of which a loss of power takes back what was not
+//! flushed, and registration files in memory.
+#![tactic(auto)]
+
+mod device;
+mod formatted;
+
+pub use device::{Failing, FailingBlocks, crashed};
+pub use formatted::{OPEN_CALLS, formatted};

@@ -1,0 +1,7 @@
+//! The registration file over its public calls.
+
+mod bytes;
+mod files;
+mod records;
+mod refusals;
+mod saves;
