@@ -1,31 +1,30 @@
 //! Files of a test, and runs of blocks, each told by the byte that fills it.
 use block_file::Blocks;
-use std::alloc::Global;
+use std::alloc::{AllocError, Global};
 use std::fs::{File, Files};
-use std::process::Abort;
 use std::{fs, io};
 
 /// The folder of a test of this process, made anew in the one that the test runs in: who runs it made that for it, and takes it away
 /// again, also where it fails.
-pub fn folder<R: Files<File = File> + AllocGlobal + Abort>(
+pub fn folder<R: Files<File = File> + AllocGlobal>(
     rt: &R,
     process: u32,
     name: &str,
-) -> String {
-    let folder = format!(in rt.alloc(); "arrayd_{process}_{name}").expect(rt, "memory");
+) -> io::Result<String> {
+    let folder = format!(in rt.alloc(); "arrayd_{process}_{name}")?;
     let _ = fs::remove_dir_all(rt, folder.as_str());
-    fs::create_dir(rt, folder.as_str()).expect(rt, name);
-    folder
+    fs::create_dir(rt, folder.as_str())?;
+    Ok(folder)
 }
 
 /// Takes the folder of a test away.
-pub fn clean<R: Files<File = File> + AllocGlobal + Abort>(rt: &R, folder: &str) {
-    fs::remove_dir_all(rt, folder).expect(rt, folder);
+pub fn clean<R: Files<File = File> + AllocGlobal>(rt: &R, folder: &str) -> io::Result<()> {
+    fs::remove_dir_all(rt, folder)
 }
 
 /// The path of a name in a folder.
-pub fn path_of(rt: &impl Abort, alloc: Global, folder: &str, name: &str) -> String {
-    format!(in alloc; "{folder}/{name}").expect(rt, "memory")
+pub fn path_of(alloc: Global, folder: &str, name: &str) -> Result<String, AllocError> {
+    format!(in alloc; "{folder}/{name}")
 }
 
 /// Sets the length of a file, if it was opened.

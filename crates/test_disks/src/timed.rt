@@ -1,8 +1,7 @@
 //! Devices whose calls have a deadline.
-ghost use Rattle.std.specs.Prelude.{◌≡◌};
+ghost use Rattle.std.specs.Prelude.{◌≡◌, IfOk};
 ghost use Rattle.std.specs.Arc.{arc_value};
 
-use crate::ends::fail;
 use block_file::Opener;
 use deadline::Deadlined;
 use disk_files::FileDevice;
@@ -10,24 +9,24 @@ use disk_preparer::Node;
 use event_log::Log;
 use events::Part;
 use std::alloc::Global;
-use std::process::Abort;
+use std::io::{self, ErrorKind};
 use std::sync::{Arc, Wait};
 use std::thread::Threads;
 use std::time::{Clock, Duration};
 use timed_calls::Watch;
 
 /// A watch over a disk, of which a call may take so many seconds.
-pub fn watch(rt: &impl Abort, alloc: Global, patience: u64, disk: Node) -> Arc<Watch, Global>
-    ensures { (arc_value result).node ≡ disk }
+pub fn watch(alloc: Global, patience: u64, disk: Node) -> io::Result<Arc<Watch, Global>>
+    ensures { IfOk result (λ watch. (arc_value watch).node ≡ disk) }
 {
     let patience = Duration::from_secs(patience);
     let watch = Watch::new(patience, Log::off(), 0, Part::Disk, disk);
-    Arc::new(alloc, watch).expect(rt, "memory")
+    Ok(Arc::new(alloc, watch)?)
 }
 
-/// Hands a device of this disk, and what opens it anew, to a thread of its own.
+/// Hands a device of this disk, which has a block, and what opens it anew, to a thread of its own.
 pub fn timed<
-    R: Threads + Wait + Clock + Abort + Clone + Drop + Send + 'static,
+    R: Threads + Wait + Clock + Clone + Drop + Send + 'static,
     B: FileDevice + Send + 'static,
     O: Opener<B> + Send + 'static,
 >(
@@ -37,13 +36,12 @@ pub fn timed<
     opener: O,
     disk: Node,
     watch: &Arc<Watch, Global>,
-) -> Deadlined<R, B, O>
+) -> io::Result<Deadlined<R, B, O>>
     requires disk { disk ≡ B.OnDisk.disk blocks }
     requires watched { (arc_value watch.now).node ≡ disk }
 {
     if blocks.count() == 0 {
-        fail(rt, "a device", &"no blocks");
+        return Err(ErrorKind::InvalidInput.into());
     }
-    let device = Deadlined::start(rt, alloc, blocks, opener, disk, watch);
-    device.expect(rt, "a thread")
+    Deadlined::start(rt, alloc, blocks, opener, disk, watch)
 }

@@ -2,11 +2,7 @@
 ghost use Rattle.std.specs.Prelude.{[], true, false};
 ghost use Rattle.block_file.specs.Failures.{last_count};
 
-use crate::calls::{is_done_on, said};
 use crate::ends::must;
-use crate::rows::{Row, row_of};
-use crate::runs::reads;
-use crate::timed::{timed, watch};
 use block_file::{Blocks, DeviceFailed, KeepOpener, MemBlocks};
 use deadline::DeadlinedPreparer;
 use disk_files::FileDevice;
@@ -17,6 +13,7 @@ use std::sync::atomic::{AtomicU64, Ordering};
 use std::sync::{Arc, Wait};
 use std::thread::{self, Threads};
 use std::time::{Clock, Duration};
+use test_disks::{Row, is_done_on, reads, row_of, timed, watch};
 
 /// So many seconds a call may take.
 const PATIENCE: u64 = 1;
@@ -260,6 +257,11 @@ fn is_fresh<P: Preparer>(alloc: Global, preparer: &P) -> bool {
     }
 }
 
+// How counts are told.
+fn said(rt: &impl Abort, alloc: Global, counts: (u64, u64, u64)) -> String {
+    format!(in alloc; "{counts:?}").expect(rt, "memory")
+}
+
 // Whether a row ends as it says.
 fn ends_so<B: Blocks, P: Preparer>(
     rt: &(impl Clock + Abort),
@@ -274,11 +276,11 @@ fn ends_so<B: Blocks, P: Preparer>(
             seen.stand(row.on.parse().expect(rt, row.on));
             true
         }
-        "served" => is_served(rt, device, &row.bytes(rt, alloc)),
+        "served" => is_served(rt, device, &row.bytes(alloc).expect(rt, row.rest)),
         "beside" => row.ends(preparer.flush()),
         "fresh" => row.ends(is_fresh(alloc, preparer)),
-        "counts" => said(rt, alloc, &seen.counts()).as_str() == row.end,
-        _ => row.ends(is_done_on(rt, alloc, device, row)),
+        "counts" => said(rt, alloc, seen.counts()).as_str() == row.end,
+        _ => row.ends(is_done_on(alloc, device, row).expect(rt, row.on)),
     }
 }
 
@@ -306,7 +308,7 @@ fn play_over_a_disk<R: Threads + Wait + Clock + Abort + Clone + Drop + Send + Sy
     script: &str,
 ) {
     let seen = nothing(rt, alloc);
-    let watch = watch(rt, alloc, PATIENCE, NO_FILE);
+    let watch = watch(alloc, PATIENCE, NO_FILE).expect(rt, "memory");
     let blocks = Seeing {
         inner: MemBlocks::new(alloc, 16).expect(rt, "memory"),
         rt: host,
@@ -318,11 +320,12 @@ fn play_over_a_disk<R: Threads + Wait + Clock + Abort + Clone + Drop + Send + Sy
         seen: share(rt, &seen),
     };
     let preparer = DeadlinedPreparer::start(rt, alloc, by, NO_FILE, &watch).expect(rt, "threads");
-    let mut device = timed(rt, alloc, blocks, KeepOpener, NO_FILE, &watch);
+    let device = timed(rt, alloc, blocks, KeepOpener, NO_FILE, &watch);
+    let mut device = device.expect(rt, "a thread");
     play(rt, alloc, &mut device, &preparer, &seen, script);
 }
 
-// `read`, `write` and `flush` are calls on the device, as in `scripts`, and `beside` is a flush by the preparer. `stand 10000`: from now on
+// `read`, `write` and `flush` are calls on the device, as in the scripts of `test_files`, and `beside` is a flush by the preparer. `stand 10000`: from now on
 // each call of the disk takes so many milliseconds. `served 2 11`: block 2 is read in time, which this byte fills. `fresh`: a read beside
 // the device, which fails, gives memory that holds nothing. `counts; (1, 2, 3)`: so many reads, writes and flushes the disk was asked for.
 fn scripts() -> &'static str {

@@ -1,6 +1,5 @@
 //! How much the kernel lets programs write, by what its files say, and that these are looked at now and then.
 use crate::ends::must;
-use crate::runs::{clean, folder, path_of};
 use file_preparer::{KernelFiles, KernelLimits};
 use std::alloc::Global;
 use std::fs::File;
@@ -8,6 +7,7 @@ use std::io::Write;
 use std::process;
 use std::process::Abort;
 use std::rt::Files;
+use test_disks::{clean, folder, path_of};
 
 /// What the files say: how many KiB of memory are available, the limit in bytes and as hundredths of that memory, and both of where
 /// the kernel begins to write.
@@ -39,7 +39,7 @@ impl Said {
                 "background",
                 "background_ratio",
             ]
-            .map(|name| path_of(rt, alloc, folder, name)),
+            .map(|name| path_of(alloc, folder, name).expect(rt, "memory")),
         }
     }
 
@@ -65,7 +65,7 @@ impl Said {
 // The middle between where the kernel begins to write and its limit, where no program waits yet. Of 8 GiB, a hundredth is 85899345.
 #[test]
 fn the_middle_of_both_limits_is_free(rt: HostRuntime) {
-    let folder = folder(&rt, process::id(rt.process()), "limits");
+    let folder = folder(&rt, process::id(rt.process()), "limits").expect(&rt, "a folder");
     let said = Said::new(&rt, rt.alloc(), folder.as_str());
     let rows: [(Texts, u64); 7] = [
         (HUNDREDTHS, 1_288_490_175),
@@ -90,12 +90,12 @@ fn the_middle_of_both_limits_is_free(rt: HostRuntime) {
         let free = KernelLimits::new(&rt, &files, 0).free(&rt, &files, 0);
         must(&rt, free == *wanted, "bytes", &(texts, free));
     }
-    clean(&rt, folder.as_str());
+    clean(&rt, folder.as_str()).expect(&rt, "a folder");
 }
 
 #[test]
 fn limits_that_change_are_seen_in_ten_seconds(rt: HostRuntime) {
-    let folder = folder(&rt, process::id(rt.process()), "later");
+    let folder = folder(&rt, process::id(rt.process()), "later").expect(&rt, "a folder");
     let said = Said::new(&rt, rt.alloc(), folder.as_str());
     said.say(&rt, &HUNDREDTHS);
     let files = said.names();
@@ -111,5 +111,5 @@ fn limits_that_change_are_seen_in_ten_seconds(rt: HostRuntime) {
     let seen = (before, behind, later);
     let wanted = (1_288_490_175, 201_326_592, (201_326_592, 1_288_490_175));
     must(&rt, seen == wanted, "bytes", &seen);
-    clean(&rt, folder.as_str());
+    clean(&rt, folder.as_str()).expect(&rt, "a folder");
 }

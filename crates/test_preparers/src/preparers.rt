@@ -1,6 +1,5 @@
 //! Preparers that cannot prepare: the device does the same.
 use crate::ends::must;
-use crate::runs::{clean, folder, path_of, reads, sized, writes};
 use block_file::Blocks;
 use disk_files::{FileBlocks, SystemFile, open_disk};
 use disk_preparer::Preparer;
@@ -11,6 +10,7 @@ use std::process;
 use std::process::Abort;
 use std::rt::{Clock, Files};
 use std::sync::Wait;
+use test_disks::{clean, folder, path_of, reads, sized, writes};
 
 // Runs that lie in the disk of four blocks, reach behind it, or lie behind all that a file can have.
 const RUNS: [(u64, u16); 5] = [(0, 4), (1, 1), (3, 2048), (8, 1), (u64::MAX, 65535)];
@@ -19,13 +19,13 @@ const RUNS: [(u64, u16); 5] = [(0, 4), (1, 1), (3, 2048), (8, 1), (u64::MAX, 655
 #[test]
 fn a_preparer_costs_time_alone(rt: HostRuntime) {
     let process = process::id(rt.process());
-    let folder = folder(&rt, process, "preparers");
-    let other = path_of(&rt, rt.alloc(), folder.as_str(), "other");
+    let folder = folder(&rt, process, "preparers").expect(&rt, "a folder");
+    let other = path_of(rt.alloc(), folder.as_str(), "other").expect(&rt, "memory");
     make(&rt, other.as_str(), 2048);
     for name in &["disk", "other", "none"] {
         under_a_name(&rt, rt.alloc(), folder.as_str(), *name);
     }
-    clean(&rt, folder.as_str());
+    clean(&rt, folder.as_str()).expect(&rt, "a folder");
 }
 
 // Makes a file of so many zeros.
@@ -39,10 +39,10 @@ fn under_a_name<R: Clock + Wait + Files<File = File> + Abort + Copy + Drop>(
     folder: &str,
     name: &str,
 ) {
-    let disk = path_of(rt, alloc, folder, "disk");
+    let disk = path_of(alloc, folder, "disk").expect(rt, "memory");
     make(rt, disk.as_str(), 2048);
     let mut blocks = device(rt, alloc, disk.as_str());
-    let opened = path_of(rt, alloc, folder, name);
+    let opened = path_of(alloc, folder, name).expect(rt, "memory");
     let preparer = FilePreparer::open(*rt, alloc, opened.as_str(), &mut blocks, None);
     must(
         rt,

@@ -3,8 +3,6 @@
 ghost use Rattle.std.specs.Prelude.{false};
 
 use crate::ends::must;
-use crate::runs::{clean, folder, path_of, sized, writes};
-use crate::timed::{timed, watch};
 use block_file::{Blocks, KeepOpener};
 use deadline::DeadlinedPreparer;
 use disk_files::FileBlocks;
@@ -16,6 +14,7 @@ use std::sync::Arc;
 use std::sync::atomic::{AtomicU64, Ordering};
 use std::time::{Clock, Duration};
 use std::{process, thread};
+use test_disks::{clean, folder, path_of, sized, timed, watch, writes};
 
 /// So many seconds a call may take, and so many READs come together, from block 1 on.
 const PATIENCE: u64 = 60;
@@ -98,22 +97,23 @@ fn taken<B: Blocks, P: Preparer>(
 #[test]
 fn what_is_read_ahead_is_taken_unless_a_write_has_come_back_since(rt: HostRuntime) {
     let alloc = rt.alloc();
-    let folder = folder(&rt, process::id(rt.process()), "ahead");
-    let path = path_of(&rt, alloc, folder.as_str(), "disk");
+    let folder = folder(&rt, process::id(rt.process()), "ahead").expect(&rt, "a folder");
+    let path = path_of(alloc, folder.as_str(), "disk").expect(&rt, "memory");
     let path = path.as_str();
     must(&rt, sized(File::create(&rt, path), 2048), "a file", &path);
     let mut blocks = FileBlocks::open(&rt, path).expect(&rt, path);
     let mut other = FileBlocks::open(&rt, path).expect(&rt, path);
     let by = FilePreparer::open(rt, alloc, path, &mut blocks, None);
     let disk = blocks.node();
-    let watch = watch(&rt, alloc, PATIENCE, disk);
+    let watch = watch(alloc, PATIENCE, disk).expect(&rt, "memory");
     let preparer = DeadlinedPreparer::start(&rt, alloc, by, disk, &watch).expect(&rt, "threads");
-    let mut device = timed(&rt, alloc, blocks, KeepOpener, disk, &watch);
+    let device = timed(&rt, alloc, blocks, KeepOpener, disk, &watch);
+    let mut device = device.expect(&rt, "a thread");
     for (is_written, expected) in &[(false, BEFORE), (true, SINCE)] {
         let given = taken(alloc, &mut device, &preparer, &mut other, *is_written);
         must(&rt, given == Some(*expected), "block 2", &given);
     }
-    clean(&rt, folder.as_str());
+    clean(&rt, folder.as_str()).expect(&rt, "a folder");
 }
 
 /// How many READs a disk was asked for, at how many of them it looked, and the block of the last one of these.
@@ -208,7 +208,7 @@ fn the_first_block_that_is_read_ahead_is_looked_at(rt: HostRuntime) {
         disk: NO_FILE,
         seen: Arc::try_clone(&seen).expect(&rt, "memory"),
     };
-    let watch = watch(&rt, alloc, PATIENCE, NO_FILE);
+    let watch = watch(alloc, PATIENCE, NO_FILE).expect(&rt, "memory");
     let preparer = DeadlinedPreparer::start(&rt, alloc, by, NO_FILE, &watch).expect(&rt, "threads");
     must(&rt, first(alloc, &preparer).is_some(), "block 1", &());
     let looks = looks(&rt, &seen);

@@ -1,12 +1,12 @@
 //! In which order a registration file is written and flushed, in the calls that its device makes of the file.
 use crate::ends::must;
 use crate::fake::FakeFile;
-use crate::registered::registered;
 use aptpl_file::{FILE_BLOCKS, RegFile, SaveFault};
 use block_file::{BLOCK_LENGTH, Blocks};
 use disk_files::FileBlocks;
 use std::alloc::Global;
 use std::process::Abort;
+use test_disks::registered;
 
 /// The write that fails, counted from 0.
 const FAILS_AT: u64 = 5;
@@ -34,7 +34,7 @@ flush behind 9";
 
 // Saves what is registered by a key.
 fn save<B: Blocks>(rt: &impl Abort, alloc: Global, file: &mut RegFile<B>) -> Option<SaveFault> {
-    let registry = registered(rt, alloc, 0x22, true);
+    let registry = registered(alloc, 0x22, true).expect(rt, "registrations");
     file.save(&registry.lasting()).err()
 }
 

@@ -2,12 +2,11 @@
 use reservations::{PrOut, Registry};
 use scsi_types::{Group, PortName, PrOutAction};
 use std::alloc::Global;
-use std::process::Abort;
 
 /// A registry in which the port `a` is registered by this key with APTPL, through both groups or through the first.
-pub fn registered(rt: &impl Abort, alloc: Global, key: u64, is_through_both: bool) -> Registry {
-    let name = Vec::from_slice(alloc, b"iqn.2000-01.test:a").expect(rt, "memory");
-    let port = PortName::new(name, 0x4000_0137_0000).expect(rt, "a name of a port");
+pub fn registered(alloc: Global, key: u64, is_through_both: bool) -> Option<Registry> {
+    let name = Vec::from_slice(alloc, b"iqn.2000-01.test:a").ok()?;
+    let port = PortName::new(name, 0x4000_0137_0000)?;
     let request = PrOut {
         action: PrOutAction::Register,
         scope: 0,
@@ -18,7 +17,7 @@ pub fn registered(rt: &impl Abort, alloc: Global, key: u64, is_through_both: boo
         all_tg_pt: is_through_both,
         aptpl: true,
     };
-    let mut registry = Registry::new(alloc).expect(rt, "memory");
+    let mut registry = Registry::new(alloc).ok()?;
     let _ = registry.out(&port, Group::One, request);
-    registry
+    Some(registry)
 }

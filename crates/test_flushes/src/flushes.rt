@@ -2,13 +2,13 @@
 use crate::beside::slow_handles;
 use crate::ends::must;
 use crate::fake::{FAILED, FakeFile, NODE};
-use crate::runs::writes;
 use block_file::Blocks;
 use disk_files::{FileBlocks, FlushFault, Flushes};
 use std::alloc::Global;
 use std::process::Abort;
 use std::sync::{Arc, Mutex, Wait};
 use std::thread::{Threads, join};
+use test_disks::writes;
 
 /// Scripts. Each begins with its name, which flush of the device fails, counted from 0, and of each of two handles beside it, if
 /// there are handles. Then come flushes of the device and beside it, and how they end. The flushes of a handle that is opened anew

@@ -1,6 +1,5 @@
 //! What was written to a disk and is not flushed: what counts as flushed, who waits for that, and for how long.
 use crate::ends::{fail, must};
-use crate::runs::{clean, folder, path_of, sized};
 use disk_files::{FileBlocks, FileLog};
 use disk_preparer::{Account, Preparer};
 use event_log::Log;
@@ -13,6 +12,7 @@ use std::process;
 use std::process::Abort;
 use std::sync::{Arc, Wait};
 use std::time::{Clock, Duration};
+use test_disks::{clean, folder, path_of, sized};
 
 /// What the kernel lets programs write.
 const FREE: u64 = 256 << 20;
@@ -200,8 +200,8 @@ fn are_counted<R: Wait + Abort>(rt: &R, alloc: Global, log: &Log) {
 #[test]
 fn a_wait_ends_with_a_flush_or_with_its_time(rt: HostRuntime) {
     let alloc = rt.alloc();
-    let folder = folder(&rt, process::id(rt.process()), "backlog");
-    let path = path_of(&rt, alloc, folder.as_str(), "disk");
+    let folder = folder(&rt, process::id(rt.process()), "backlog").expect(&rt, "a folder");
+    let path = path_of(alloc, folder.as_str(), "disk").expect(&rt, "memory");
     let path = path.as_str();
     must(&rt, sized(File::create(&rt, path), 2048), "a file", &path);
     let mut blocks = FileBlocks::open(&rt, path).expect(&rt, path);
@@ -210,5 +210,5 @@ fn a_wait_ends_with_a_flush_or_with_its_time(rt: HostRuntime) {
     let preparer = FilePreparer::open(rt, alloc, path, &mut blocks, Some(file_log));
     waits_until_a_flush(&rt, &preparer);
     are_counted(&rt, alloc, &log);
-    clean(&rt, folder.as_str());
+    clean(&rt, folder.as_str()).expect(&rt, "a folder");
 }
