@@ -14,7 +14,7 @@ use std::sync::Arc;
 use std::sync::atomic::{AtomicU64, Ordering};
 use std::time::{Clock, Duration};
 use std::{process, thread};
-use test_disks::{clean, folder, path_of, sized, timed, watch, writes};
+use test_disks::{clean, folder, given, path_of, sized, timed, watch, writes};
 
 /// So many seconds a call may take, and so many READs come together, from block 1 on.
 const PATIENCE: u64 = 60;
@@ -60,22 +60,8 @@ fn second<P: Preparer>(alloc: Global, preparer: &P) -> Option<BlockMemory> {
     None
 }
 
-// The byte that fills block 2, as the device gives it into this memory.
-fn given<B: Blocks>(device: &mut B, memory: BlockMemory) -> Option<u8> {
-    if memory.bytes.len() != 512 || device.count() <= 2 {
-        return None;
-    }
-    let block = device.read_into(2, memory).ok()?;
-    let byte = *block.first()?;
-    if block.iter().all(|other| *other == byte) {
-        Some(byte)
-    } else {
-        None
-    }
-}
-
-// The same, where it was read ahead, and has changed behind that by another handle, of which the device is told nothing: so it shows
-// whether it takes what was read ahead. A write of its own may come back before it does.
+// The byte that fills block 2, where it was read ahead, and has changed behind that by another handle, of which the device is told
+// nothing: so it shows whether it takes what was read ahead. A write of its own may come back before it does.
 fn taken<B: Blocks, P: Preparer>(
     alloc: Global,
     device: &mut B,
@@ -90,7 +76,7 @@ fn taken<B: Blocks, P: Preparer>(
     if !writes(other, 2, &[SINCE]) || is_written && !writes(device, 3, &[SINCE]) {
         return None;
     }
-    given(device, found)
+    given(device, 2, found)
 }
 
 // The types of a preparer that threads take along are known here alone.

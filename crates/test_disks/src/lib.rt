@@ -9,5 +9,5 @@ mod timed;
 
 pub use registered::registered;
 pub use rows::{Row, is_done_on, row_of};
-pub use runs::{clean, folder, path_of, reads, sized, writes};
+pub use runs::{clean, folder, given, path_of, reads, sized, writes};
 pub use timed::{timed, watch};

@@ -1,5 +1,6 @@
 //! Files of a test, and runs of blocks, each told by the byte that fills it.
 use block_file::Blocks;
+use disk_preparer::BlockMemory;
 use std::alloc::{AllocError, Global};
 use std::fs::{File, Files};
 use std::{fs, io};
@@ -62,4 +63,18 @@ pub fn writes<B: Blocks>(device: &mut B, first: u32, bytes: &[u8]) -> bool {
         && first <= 4
         && first as usize + n <= device.count() as usize
         && device.write_run(first, &filled(bytes)[..512 * n]).is_ok()
+}
+
+/// The byte that fills a block, as the device gives it into this memory.
+pub fn given<B: Blocks>(device: &mut B, block: u32, memory: BlockMemory) -> Option<u8> {
+    if memory.bytes.len() != 512 || block >= device.count() {
+        return None;
+    }
+    let bytes = device.read_into(block, memory).ok()?;
+    let byte = *bytes.first()?;
+    if bytes.iter().all(|other| *other == byte) {
+        Some(byte)
+    } else {
+        None
+    }
 }

@@ -1,15 +1,10 @@
-//! Units in memory and over files, before they are shared.
+//! Units in memory and over other devices, before they are shared.
 ghost use Rattle.std.specs.Prelude.{◌≤◌, IfOk, length};
 
 use aptpl_file::RegFile;
-use beside_disk::open_registrations;
 use block_file::{Blocks, FusedOpener, KeepOpener, MemBlocks, Opener};
-use disk_files::{FileBlocks, SystemFile};
 use scsi_types::Place;
 use std::alloc::Global;
-use std::fs::File;
-use std::process::Abort;
-use std::rt::Files;
 use std::sync::{Arc, Wait};
 use std::test::Fail;
 use test_memory::{HeldBlocks, Latch, Opens, new_unit};
@@ -138,20 +133,4 @@ pub fn opened<B: Blocks, F: Blocks, O: Opener<B>>(
     let mut units = Vec::new(alloc);
     units.push(NewUnit::new(alloc, unit)?)?;
     Ok(units)
-}
-
-/// The file of this name as a device.
-pub fn file_of<R: Files<File = File> + Abort>(rt: &R, path: &str) -> FileBlocks<SystemFile> {
-    FileBlocks::open(rt, path).expect(rt, path)
-}
-
-/// The device of the registration file beside it, which is made where it is not there.
-pub fn registrations_of<R: Files<File = File> + Abort>(
-    rt: &R,
-    alloc: Global,
-    path: &str,
-) -> FileBlocks<SystemFile> {
-    drop(open_registrations(rt, alloc, path, None).expect(rt, path));
-    let name = format!(in alloc; "{path}.reg").expect(rt, path);
-    FileBlocks::open(rt, name.as_str()).expect(rt, path)
 }

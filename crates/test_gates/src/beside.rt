@@ -4,7 +4,6 @@ ghost use Rattle.session_units.specs.Disks.{no_file};
 
 use crate::ends::must;
 use crate::prepared::Nameless;
-use crate::restart::zeros;
 use block_file::{Blocks, ReplyMemory};
 use disk_files::FileBlocks;
 use disk_preparer::{BlockMemory, Preparer};
@@ -12,12 +11,13 @@ use file_preparer::FilePreparer;
 use scsi_types::Command;
 use session_units::{Gate, Prepared};
 use std::alloc::Global;
-use std::fs;
 use std::fs::{File, Files};
+use std::process;
 use std::process::Abort;
 use std::sync::Wait;
 use std::test::*;
 use std::time::Clock;
+use test_disks::{clean, folder, given, path_of, sized, writes};
 
 /// A preparer that reads as another one does, and does nothing else.
 #[derive(Drop)]
@@ -118,25 +118,6 @@ fn passings() -> [Passing; 5] {
     ]
 }
 
-/// Whether a block was written that this byte fills.
-pub fn writes<B: Blocks>(device: &mut B, first: u32, byte: u8) -> bool {
-    first < device.count() && device.write_run(first, &[byte; 512]).is_ok()
-}
-
-/// The byte that fills a block as the device gives it into this memory.
-pub fn given<B: Blocks>(device: &mut B, block: u32, memory: BlockMemory) -> Option<u8> {
-    if memory.bytes.len() != 512 || block >= device.count() {
-        return None;
-    }
-    let blocks = device.read_into(block, memory).ok()?;
-    let byte = *blocks.first()?;
-    if blocks.iter().all(|other| *other == byte) {
-        Some(byte)
-    } else {
-        None
-    }
-}
-
 // Memory for one block.
 fn room(alloc: Global) -> Option<ReplyMemory> {
     let bytes = vec![in alloc; 0xDD; 512].ok()?;
@@ -151,7 +132,7 @@ fn passed<B: Blocks, G: Gate>(
     other: &mut B,
     passing: Passing,
 ) -> Option<u8> {
-    if !writes(device, 1, BEFORE) {
+    if !writes(device, 1, &[BEFORE]) {
         return None;
     }
     let asked = Ok(Command::Read {
@@ -160,7 +141,7 @@ fn passed<B: Blocks, G: Gate>(
         fua: passing.fua,
     });
     let room = gate.read(passing.unit, 0, &asked, room(alloc)?);
-    if !writes(other, 1, SINCE) || passing.is_written && !writes(device, 2, SINCE) {
+    if !writes(other, 1, &[SINCE]) || passing.is_written && !writes(device, 2, &[SINCE]) {
         return None;
     }
     given(device, 1, room.memory(512).ok()?)
@@ -186,7 +167,11 @@ fn pass_all<R: Clock + Wait + Files<File = File> + Abort + Copy + Drop>(
 
 #[test]
 fn a_read_beside_its_unit_is_taken_unless_a_write_has_ended_since(rt: HostRuntime) {
-    let path = zeros(&rt, rt.alloc(), rt.process(), "beside", 2048);
-    pass_all(&rt, rt.alloc(), path.as_str());
-    fs::remove_file(&rt, path.as_str()).expect(&rt, "the file");
+    let alloc = rt.alloc();
+    let folder = folder(&rt, process::id(rt.process()), "beside").expect(&rt, "a folder");
+    let path = path_of(alloc, folder.as_str(), "disk").expect(&rt, "memory");
+    let path = path.as_str();
+    must(&rt, sized(File::create(&rt, path), 2048), "a file", &path);
+    pass_all(&rt, alloc, path);
+    clean(&rt, folder.as_str()).expect(&rt, "a folder");
 }
