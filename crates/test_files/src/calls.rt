@@ -1,9 +1,6 @@
 //! The runner of the scripts over files (`scripts`).
 use crate::ends::must;
 use crate::kept::AnyFile;
-use crate::registered::registered;
-use crate::rows::{Row, row_of};
-use crate::runs::{clean, folder, path_of, reads, sized, writes};
 use aptpl_file::RegFile;
 use beside_disk::{UnitName, open_as};
 use block_file::{Blocks, Opener};
@@ -15,6 +12,7 @@ use std::fs;
 use std::fs::{File, Files};
 use std::os::unix::fs::MetadataExt;
 use std::process::Abort;
+use test_disks::{Row, clean, folder, is_done_on, path_of, registered, row_of, sized};
 
 /// Plays each script of a table in a folder of this process, over files that are opened so.
 pub fn play_each<
@@ -26,9 +24,9 @@ pub fn play_each<
 {
     for script in table.split("\n\n") {
         let (name, rows) = script.split_once('\n').unwrap_or((script, ""));
-        let folder = folder(rt, process, name);
+        let folder = folder(rt, process, name).expect(rt, name);
         play(rt, opens, folder.as_str(), rows);
-        clean(rt, folder.as_str());
+        clean(rt, folder.as_str()).expect(rt, name);
     }
 }
 
@@ -43,7 +41,7 @@ fn play<
     let mut kept = None;
     for line in rows.split('\n') {
         let row = row_of(line);
-        let path = path_of(rt, rt.alloc(), folder, row.on);
+        let path = path_of(rt.alloc(), folder, row.on).expect(rt, "memory");
         must(
             rt,
             ends_so(rt, opens, &mut kept, path.as_str(), &row),
@@ -127,17 +125,8 @@ pub fn is_done<B: Blocks, O: Opener<B>>(
     if row.word == "anew" {
         row.ends(opener.open(blocks).is_ok())
     } else {
-        row.ends(is_done_on(rt, alloc, blocks, row))
-    }
-}
-
-/// Makes a call on a device.
-pub fn is_done_on<B: Blocks>(rt: &impl Abort, alloc: Global, blocks: &mut B, row: &Row) -> bool {
-    match row.word {
-        "read" => reads(blocks, row.block(rt), &row.bytes(rt, alloc)),
-        "write" => writes(blocks, row.block(rt), &row.bytes(rt, alloc)),
-        "flush" => blocks.flush().is_ok(),
-        _ => blocks.count() == row.block(rt),
+        let is_done = is_done_on(alloc, blocks, row);
+        row.ends(is_done.expect(rt, row.on))
     }
 }
 
@@ -155,10 +144,20 @@ fn looks_so<R: Files<File = File> + AllocGlobal + Abort>(rt: &R, path: &str, row
     }
 }
 
+// The bytes of a row.
+fn bytes_of(rt: &impl Abort, alloc: Global, row: &Row) -> Vec<u8> {
+    row.bytes(alloc).expect(rt, row.rest)
+}
+
+// The number of a row.
+fn number_of(rt: &impl Abort, row: &Row) -> u64 {
+    row.number().expect(rt, row.rest)
+}
+
 // Whether the bytes of a file are those of a row, or so many.
 fn are_those(rt: &impl Abort, alloc: Global, bytes: &[u8], row: &Row) -> bool {
     if row.word == "holds" {
-        bytes == row.bytes(rt, alloc).as_slice() && row.ends(true)
+        bytes == bytes_of(rt, alloc, row).as_slice() && row.ends(true)
     } else {
         row.end.parse() == Ok(bytes.len())
     }
@@ -209,7 +208,7 @@ pub fn is_saved<B: Blocks>(
     key: &str,
 ) -> bool {
     let number = u64::from_str_radix(key, 16).expect(rt, key);
-    let registry = registered(rt, alloc, number, false);
+    let registry = registered(alloc, number, false).expect(rt, "registrations");
     file.save(&registry.lasting()).is_ok()
 }
 
@@ -226,9 +225,12 @@ pub fn told(rt: &impl Abort, alloc: Global, record: &Record) -> String {
 // Changes a file.
 fn changes<R: Files<File = File> + Abort>(rt: &R, alloc: Global, path: &str, row: &Row) -> bool {
     match row.word {
-        "make" => sized(File::create(rt, path), row.number(rt)),
-        "cut" => sized(File::options().write(true).open(rt, path), row.number(rt)),
-        "put" => fs::write(rt, path, row.bytes(rt, alloc).as_slice()).is_ok(),
+        "make" => sized(File::create(rt, path), number_of(rt, row)),
+        "cut" => sized(
+            File::options().write(true).open(rt, path),
+            number_of(rt, row),
+        ),
+        "put" => fs::write(rt, path, bytes_of(rt, alloc, row).as_slice()).is_ok(),
         "remove" => fs::remove_file(rt, path).is_ok(),
         "blocks_in" => is_counted(rt, alloc, blocks_in(row.on.parse().expect(rt, row.on)), row),
         _ => names(rt, path, path_beside(rt, alloc, path, row).as_str(), row),

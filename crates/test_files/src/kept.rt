@@ -1,7 +1,5 @@
 //! What a script over files keeps open (`scripts`): a disk, or a registration file; by a thread of its own, where calls have a deadline.
 use crate::calls::{is_done, is_saved, said, told};
-use crate::rows::Row;
-use crate::timed::{timed, watch};
 use aptpl_file::RegFile;
 use beside_disk::{Registrations, open_registrations};
 use block_file::{Blocks, KeepOpener, Opener};
@@ -16,6 +14,7 @@ use std::process::Abort;
 use std::sync::Wait;
 use std::thread::Threads;
 use std::time::Clock;
+use test_disks::{Row, timed, watch};
 
 /// So many seconds a call may take.
 const PATIENCE: u64 = 20;
@@ -115,8 +114,9 @@ fn timed_at<
     O: Opener<B> + Send + 'static,
 >(rt: &R, alloc: Global, blocks: B, opener: O) -> Deadlined<R, B, O> {
     let disk = blocks.disk();
-    let watch = watch(rt, alloc, PATIENCE, disk);
-    timed(rt, alloc, blocks, opener, disk, &watch)
+    let watch = watch(alloc, PATIENCE, disk).expect(rt, "memory");
+    let device = timed(rt, alloc, blocks, opener, disk, &watch);
+    device.expect(rt, "a thread")
 }
 
 /// Opens a file as `opened` does, whose calls have a deadline.

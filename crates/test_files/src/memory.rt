@@ -5,15 +5,14 @@ ghost use Rattle.block_file.specs.Cut.{run_of};
 ghost use Rattle.block_file.specs.Disk.{block_at};
 ghost use Rattle.disk_files.specs.Backing.{put};
 
-use crate::calls::is_done_on;
 use crate::ends::must;
-use crate::rows::row_of;
 use block_file::Blocks;
 use disk_files::{BackingFile, Counted, FileBlocks};
 use disk_preparer::Node;
 use std::alloc::{AllocError, Global};
 use std::process::Abort;
 use test_connections::bytes_of;
+use test_disks::{is_done_on, row_of};
 
 /// A file in memory. A crash leaves each sector as it was when it was flushed last, or as it is.
 #[derive(Drop)]
@@ -146,12 +145,8 @@ read 2 08 09"
 // Makes the calls of rows.
 fn make<B: Blocks>(rt: &impl Abort, alloc: Global, blocks: &mut B, rows: &str) {
     for line in rows.split('\n') {
-        must(
-            rt,
-            is_done_on(rt, alloc, blocks, &row_of(line)),
-            "a call",
-            &line,
-        );
+        let is_done = is_done_on(alloc, blocks, &row_of(line));
+        must(rt, is_done == Some(true), "a call", &line);
     }
 }
 

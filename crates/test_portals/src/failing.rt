@@ -2,7 +2,12 @@
 //! ports.
 use crate::restart::{removed, zeros};
 use crate::serving::{Machine, Story};
-use crate::units::{file_of, registrations_of};
+use beside_disk::open_registrations;
+use disk_files::{FileBlocks, SystemFile};
+use std::alloc::Global;
+use std::fs::File;
+use std::process::Abort;
+use std::rt::Files;
 use std::test::*;
 
 // Stories, each with its name, and behind that what fails. A script stands before the restart, and one behind it.
@@ -66,6 +71,22 @@ B > COMMAND 1:C1 20:00000010 32:5E000000000000001000
 B < DATA_IN 7:08 00000000 00000000 / DATA_IN 7:10 00000000 00000008 0000000000000011
 B < GOOD 1:82 36:00000001 44:00000008 / GOOD 36:00000001
 "#
+}
+
+// The file of this name as a device.
+fn file_of<R: Files<File = File> + Abort>(rt: &R, path: &str) -> FileBlocks<SystemFile> {
+    FileBlocks::open(rt, path).expect(rt, path)
+}
+
+// The device of the registration file beside it, which is made where it is not there.
+fn registrations_of<R: Files<File = File> + Abort>(
+    rt: &R,
+    alloc: Global,
+    path: &str,
+) -> FileBlocks<SystemFile> {
+    drop(open_registrations(rt, alloc, path, None).expect(rt, path));
+    let name = format!(in alloc; "{path}.reg").expect(rt, path);
+    FileBlocks::open(rt, name.as_str()).expect(rt, path)
 }
 
 #[test]

@@ -5,15 +5,9 @@
 #[cfg(test)]
 mod at;
 #[cfg(test)]
-mod behind;
-#[cfg(test)]
-mod beside;
-#[cfg(test)]
 mod clients;
 #[cfg(test)]
 mod discovery;
-#[cfg(test)]
-mod doors;
 #[cfg(test)]
 mod down;
 #[cfg(test)]
@@ -37,13 +31,7 @@ mod logins;
 #[cfg(test)]
 mod medium;
 #[cfg(test)]
-mod no_room;
-#[cfg(test)]
-mod prepared;
-#[cfg(test)]
 mod restart;
-#[cfg(test)]
-mod scene;
 #[cfg(test)]
 mod scripts;
 #[cfg(test)]
@@ -54,8 +42,6 @@ mod silence;
 mod stage;
 #[cfg(test)]
 mod streams;
-#[cfg(test)]
-mod units;
 #[cfg(test)]
 mod wanting;
 #[cfg(test)]

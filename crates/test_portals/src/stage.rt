@@ -34,13 +34,12 @@
 //! - `end 9`: an administrator ends the session with this TSIH;
 //! - `clock 11`: so many seconds pass.
 use crate::at::At;
-use crate::doors::Flushes;
-use crate::scene::{Place, Scene};
 use std::alloc::{AllocError, Global};
 use std::io::Eprint;
 use std::process::Abort;
 use std::test::Fail;
 use test_connections::{Host, filled, host_texts, is_text, lines_of, pdu_of, put_number};
+use test_scenes::{Flushes, Place, Scene};
 
 /// The hosts of a script, and the array that they reach.
 #[derive(Drop)]

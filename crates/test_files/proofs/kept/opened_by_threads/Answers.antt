@@ -1,6 +1,6 @@
 use denote.Param.Send.{sendable}
 use Rattle.std.proofs.Crossing.{crosses}
-use Rattle.file_preparer.proofs.Sent.{files_cross}
+use Rattle.disk_files.proofs.Sent.{files_cross}
 use Rattle.test_files.proofs.kept.opened_by_threads.Goals as goal
 
 pub timed-requires-send-B : goal.timed-requires-send-B

@@ -1,6 +1,6 @@
 use denote.Param.Send.{sendable}
 use Rattle.std.proofs.Crossing.{crosses}
-use Rattle.file_preparer.proofs.Sent.{files_cross}
+use Rattle.disk_files.proofs.Sent.{files_cross}
 use Rattle.test_portals.proofs.failing.a_restart_and_a_write_an_open_and_a_save_that_fail.Goals as goal
 
 pub run_twice-requires-send-B : goal.run_twice-requires-send-B

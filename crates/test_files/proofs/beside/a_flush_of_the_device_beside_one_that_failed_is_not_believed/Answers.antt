@@ -1,7 +1,0 @@
-use denote.Param.Send.{sendable}
-use Rattle.std.proofs.Crossing.{crosses}
-use Rattle.file_preparer.proofs.Sent.{files_cross}
-use Rattle.test_files.proofs.beside.a_flush_of_the_device_beside_one_that_failed_is_not_believed.Goals as goal
-
-pub neither_is_done-requires-send-B : goal.neither_is_done-requires-send-B
-neither_is_done-requires-send-B g _ κs = search (files_cross, sendable, crosses) depth 20
