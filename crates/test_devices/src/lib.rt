@@ -3,7 +3,7 @@
 #![tactic(auto)]
 
 mod device;
-mod formatted;
+mod in_memory;
 
 pub use device::{Failing, FailingBlocks, crashed};
-pub use formatted::{OPEN_CALLS, formatted};
+pub use in_memory::{OPEN_CALLS, formatted};
