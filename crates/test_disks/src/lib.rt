@@ -2,12 +2,14 @@
 //! calls have a deadline, and registrations that are to last.
 #![tactic(auto)]
 
-mod registered;
+mod calls;
+mod registrations;
 mod rows;
 mod runs;
-mod timed;
+mod with_deadline;
 
-pub use registered::registered;
-pub use rows::{Row, is_done_on, row_of};
+pub use calls::is_done_on;
+pub use registrations::registered;
+pub use rows::{Row, row_of};
 pub use runs::{clean, folder, given, path_of, reads, sized, writes};
-pub use timed::{timed, watch};
+pub use with_deadline::{timed, watch};

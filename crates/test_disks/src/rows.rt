@@ -1,6 +1,4 @@
-//! The rows of scripts over disks, and the calls on a device that they make.
-use crate::runs::{reads, writes};
-use block_file::Blocks;
+//! The rows of scripts over disks.
 use std::alloc::Global;
 use test_connections::bytes_of;
 
@@ -50,32 +48,8 @@ impl Row<'_> {
         bytes_of(alloc, &[], self.rest).ok()
     }
 
-    // The run that it reads or writes: the first block, and the bytes that fill its blocks.
-    fn run(&self, alloc: Global) -> Option<(u32, Vec<u8>)> {
-        Some((self.block()?, self.bytes(alloc)?))
-    }
-
     /// Whether it is to end as done, or as failed.
     pub fn ends(&self, is_done: bool) -> bool {
         self.end == if is_done { "done" } else { "failed" }
-    }
-}
-
-/// Makes the call of a row on a device: whether that was done. None: it spells no block, or no bytes.
-pub fn is_done_on<B: Blocks>(alloc: Global, blocks: &mut B, row: &Row) -> Option<bool> {
-    match row.word {
-        "read" => {
-            let (first, bytes) = row.run(alloc)?;
-            Some(reads(blocks, first, &bytes))
-        }
-        "write" => {
-            let (first, bytes) = row.run(alloc)?;
-            Some(writes(blocks, first, &bytes))
-        }
-        "flush" => Some(blocks.flush().is_ok()),
-        _ => {
-            let count = row.block()?;
-            Some(blocks.count() == count)
-        }
     }
 }
