@@ -398,6 +398,30 @@ def reads_that_failed_at_two_places(folder):
         array.quit()
 
 
+@case
+def causes_of_one_unit(folder):
+    """Each call that fails has its line, until it is over: a write by the next flush, reads at more places than are known apart by
+    reading on from the first to the last."""
+    failing = Failing(folder)
+    with Array([made(f"{folder}/disk", 4096)], more={"ARRAYD_HTTP": f"127.0.0.1:{AT}", **failing.environment}) as array:
+        session = host()
+        failing.let("pread", errno.EIO, times=EVER)
+        for at in range(10):
+            is_so("a read", end_of(session.command(0, [0x28, 0, 0, 0, 0, 20 * at, 0, 0, 1, 0], expected=512)), "03 11/00")
+        failing.stop()
+        failing.let("pwrite", errno.ENOSPC)
+        is_so("a write", end_of(session.command(0, [0x2A, 0, 0, 0, 0, 7, 0, 0, 1, 0], out=bytes(512))), "03 0C/00")
+        wrong(0, "calls_failed")
+        told = lambda: [word for line in get("/health")[2].decode().splitlines() for word in line.split() if word.startswith("call=")]
+        is_so("both", told(), ["call=read", "call=write"])
+        is_so("a flush", flush(session), GOOD)
+        session.read(0, 0, 150)
+        is_so("the reads are left", told(), ["call=read"])
+        session.read(0, 150, 31)
+        over(0, "disk", "read", "EIO")
+        array.quit()
+
+
 class Hasty(Session):
     """Its first command comes with the last request of its login."""
 
