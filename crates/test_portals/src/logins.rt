@@ -39,8 +39,8 @@ A power
 A does TEST_UNIT_READY
 
 two logins of one nexus
-# A's write hangs in the device of unit 1. B is attached to unit 0, and waits for unit 1. C comes by the same nexus, and is attached to
-# no unit before B is to both; so it is the later one at each, and lives.
+# A's write hangs in the device of unit 1. B waits for that unit before it is attached to any. C comes by the same nexus, and is attached
+# to no unit before B is to both; so it is the later one at each, and lives.
 A alone
 A power 9:01
 disk hold 1
@@ -48,11 +48,12 @@ A > WRITE 9:01 5:000200 pattern 512
 disk held 1
 B at 1
 B > LOGIN 7:56 HOST_B
-0 reaches 3
+clock 1
+0 shows 2
 C at 1
 C > LOGIN 7:56 HOST_B
 clock 1
-0 shows 3
+0 shows 2
 disk open
 A < GOOD
 C < LOGGED_IN 7:36 15:03 WELCOME
