@@ -44,6 +44,7 @@ NAMES = ["iqn.2000-13.test:x", "iqn.2000-00.test:x", "iqn.2000-01", "iqn.2000-01
 # What the environment has, and what of it is named.
 VARIABLES = [
     ({"ARRAYD_DEADLNE": "5"}, "ARRAYD_DEADLNE"), ({"ARRAYD_": ""}, "ARRAYD_"), ({"ARRAYD_DEADLINE": "0"}, "ARRAYD_DEADLINE"),
+    ({"ARRAYD_DEADLINE": "+5"}, "ARRAYD_DEADLINE"), ({"ARRAYD_X\narrayd: ready": "1"}, "ARRAYD_X\\x0aarrayd: ready"),
     ({b"ARRAYD_LOG": b"log\xff"}, "ARRAYD_LOG"), ({"ARRAYD_HTTP": "x"}, "ARRAYD_HTTP"), ({"ARRAYD_HOST2": "x"}, "ARRAYD_HOST2"),
     ({"ARRAYD_CONTROL": "x" * 108}, "ARRAYD_CONTROL"), ({b"PS9": b"\xff", "ARRAYD_LOGS": "x"}, "ARRAYD_LOGS"),
     ({"PS9": "x" * 10000, "ARRAYD_LOGS": "x"}, "ARRAYD_LOGS"),
@@ -158,6 +159,7 @@ def main():
             refused(words.split(), fault, named)
         for name in NAMES:
             refused(["--target", name, "disk"], WRONG, "--target")
+        refused(["a\nb\x1b\x9b\u00e4"], "cannot use unit 0", "errno 2: a\\x0ab\\x1b\\xc2\\x9b\u00e4\n")
         for name in ("linked.reg", "linked"):
             os.link("disk.reg", name)
         logs()
