@@ -44,11 +44,20 @@ NAMES = ["iqn.2000-13.test:x", "iqn.2000-00.test:x", "iqn.2000-01", "iqn.2000-01
 # What the environment has, and what of it is named.
 VARIABLES = [
     ({"ARRAYD_DEADLNE": "5"}, "ARRAYD_DEADLNE"), ({"ARRAYD_": ""}, "ARRAYD_"), ({"ARRAYD_DEADLINE": "0"}, "ARRAYD_DEADLINE"),
+    ({"ARRAYD_DEADLINE": "+5"}, "ARRAYD_DEADLINE"), ({"ARRAYD_X\narrayd: ready": "1"}, "ARRAYD_X\\x0aarrayd: ready"),
     ({b"ARRAYD_LOG": b"log\xff"}, "ARRAYD_LOG"), ({"ARRAYD_HTTP": "x"}, "ARRAYD_HTTP"), ({"ARRAYD_HOST2": "x"}, "ARRAYD_HOST2"),
     ({"ARRAYD_CONTROL": "x" * 108}, "ARRAYD_CONTROL"), ({b"PS9": b"\xff", "ARRAYD_LOGS": "x"}, "ARRAYD_LOGS"),
     ({"PS9": "x" * 10000, "ARRAYD_LOGS": "x"}, "ARRAYD_LOGS"),
     # the log is no disk, nor a file beside one, whatever its name
-    *(({"ARRAYD_LOG": name}, "ARRAYD_LOG") for name in ("disk", "disk.reg", "disk.unit", "./disk", "link", "linked.reg")),
+    *(({"ARRAYD_LOG": name}, "ARRAYD_LOG") for name in ("disk", "disk.reg", "disk.unit", "./disk", "link", "linked.reg", "linked")),
+    # it has no name of a file that may come beside a disk
+    *(({"ARRAYD_LOG": name}, "ARRAYD_LOG") for name in ("./odd.reg", "./odd.unit", "other.unit")),
+]
+
+# The words of a start that is refused before its disk is looked at, what more its environment has, and what is named.
+BEFORE_THE_DISK = [
+    (["--bogus", "disk"], {}, "'--bogus' found"), (["--target", "BAD", "disk"], {}, "--target BAD"), (["disk"], {"ARRAYD_X": "1"}, "ARRAYD_X"),
+    (["disk"], {"ARRAYD_HTTP": "x"}, "ARRAYD_HTTP"), (["\udcff", "x" * 5000, "disk"], {}, "a word that is not UTF-8"),
 ]
 
 # Which port is taken, counted from P on, and how many portals each controller is to have.
@@ -81,6 +90,31 @@ def tells_of_itself():
     expect("--version", run(["--version"]), (0, f"arrayd {version}\n", ""))
     status, told, faults = run(["--help"])
     expect("--help", (status, told.split("\n")[0][:20], faults), (0, "usage: arrayd [OPTIO", ""))
+
+
+def in_files():
+    """What each file of the folder has."""
+    found = {}
+    for name in os.listdir():
+        if os.path.isfile(name):
+            with open(name, "rb") as file:
+                found[name] = file.read()
+    return found
+
+
+def logs():
+    """A start that is refused writes into no disk that a word names, nor into a file beside it, and makes none, where the log is one."""
+    before = in_files()
+    for more, named in VARIABLES:
+        refused(["disk"], WRONG, f": {named}\n", more=more)
+    for words, more, named in BEFORE_THE_DISK:
+        for log in ("disk", "./disk", "link", "disk.reg", "linked", "odd.unit"):
+            refused(words, WRONG, f"{named}\n", more={**more, "ARRAYD_LOG": log})
+    expect("a log that is refused", [name for name, text in in_files().items() if text != before.get(name)], [])
+    os.mkfifo("pipe")
+    for words, more, named in BEFORE_THE_DISK:
+        refused([*words, "pipe"], WRONG, f"{named}\n", more={**more, "ARRAYD_LOG": "lines"})
+    expect("lines", in_files()["lines"].count(b" event=wrong_words what="), len(BEFORE_THE_DISK))
 
 
 def quit_beside_a_session():
@@ -125,11 +159,10 @@ def main():
             refused(words.split(), fault, named)
         for name in NAMES:
             refused(["--target", name, "disk"], WRONG, "--target")
-        os.link("disk.reg", "linked.reg")
-        before = os.stat("disk").st_size
-        for more, named in VARIABLES:
-            refused(["disk"], WRONG, f": {named}\n", more=more)
-        expect("a disk as the log", os.stat("disk").st_size, before)
+        refused(["a\nb\x1b\x9b\u00e4"], "cannot use unit 0", "errno 2: a\\x0ab\\x1b\\xc2\\x9b\u00e4\n")
+        for name in ("linked.reg", "linked"):
+            os.link("disk.reg", name)
+        logs()
         for taken, portals, fault in TAKEN:
             with socket.socket() as other:
                 other.bind(("127.0.0.1", PORT + taken))

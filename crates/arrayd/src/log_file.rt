@@ -4,8 +4,8 @@ use command_line::Fault;
 use event_log::Page;
 use events::{Event, Stamp, put_line};
 use std::alloc::{AllocError, Global};
-use std::env::{self, Env, VarError};
-use std::fs::{File, OpenFile, TryLockError};
+use std::env::{self, Env, FillError, VarError};
+use std::fs::{self, File, OpenFile, TryLockError};
 use std::io::Write;
 use std::os::unix::fs::MetadataExt;
 use std::rt::Files;
@@ -16,6 +16,9 @@ pub const VARIABLE: &str = "ARRAYD_LOG";
 
 /// What stands behind the name of a disk in its own name and in those of the files beside it.
 const BESIDE: [&str; 3] = ["", ".reg", ".unit"];
+
+/// The most bytes of a word that may name a file.
+const ROOM: usize = 4096;
 
 /// Why the file of the log is not held.
 #[derive(Drop)]
@@ -28,27 +31,36 @@ pub enum NotHeld {
     Closed(i32),
 }
 
-// Whether a file has the name of this disk, or of a file beside it.
-fn is_beside(path: &str, disk: &str) -> bool {
-    match path.strip_prefix(disk) {
-        Some(rest) => BESIDE.contains(&rest),
-        None => false,
-    }
+// Whether this is the name of a file beside a disk, whether the disk is there or not.
+fn is_beside(path: &str) -> bool {
+    path.ends_with(".reg") || path.ends_with(".unit")
 }
 
-// Which file this is, where the system says it.
-fn node_of(file: &File) -> Option<(u64, u64)> {
-    match file.metadata() {
-        Ok(metadata) => Some((metadata.dev(), metadata.ino())),
-        Err(_) => None,
+// The words of the command line that may name a file, whatever is wrong with others.
+fn names<R: Env + AllocGlobal>(rt: &R) -> Result<Vec<String>, Fault> {
+    let mut names = Vec::new(rt.alloc());
+    let mut room = Vec::new(rt.alloc());
+    if room.resize(ROOM, 0u8).is_err() {
+        return Err(Fault::NoMemory);
     }
+    for place in 1..usize::MAX {
+        let word = match rt.arg(place, room.as_mut_slice()) {
+            Ok(length) => room.as_slice().get(..length).unwrap_or(&[]),
+            Err(FillError::NotPresent) => break,
+            Err(FillError::TooLong) => continue,
+        };
+        if let Ok(name) = str::from_utf8(word) {
+            names.push(String::from_str(rt.alloc(), name)?)?;
+        }
+    }
+    Ok(names)
 }
 
-// Whether this name leads to this file.
+// Whether this name leads to this file. What has the name is not opened: a pipe would wait for its other end.
 fn leads_to<R: Files<File = File>>(rt: &R, path: &str, file: &File) -> bool {
-    match File::open(rt, path) {
-        Ok(other) => node_of(&other) == node_of(file),
-        Err(_) => false,
+    match (fs::metadata(rt, path), file.metadata()) {
+        (Ok(other), Ok(own)) => (other.dev(), other.ino()) == (own.dev(), own.ino()),
+        _ => false,
     }
 }
 
@@ -60,14 +72,16 @@ pub struct LogFile<R: Files<File = File> + Drop> {
 }
 
 impl<R: Files<File = File> + Drop> LogFile<R> {
-    /// The file that the environment names, where it names one.
+    /// The file that the environment names, where it names one. One that may lie beside a disk is wrong, and is not made.
     pub fn named(rt: R) -> Result<Option<LogFile<R>>, Fault>
     where
         R: Env + AllocGlobal,
     {
         match env::var(&rt, VARIABLE) {
-            Ok(path) if !path.is_empty() => Ok(Some(LogFile { rt, path })),
-            Ok(_) | Err(VarError::NotPresent) => Ok(None),
+            Ok(path) if path.is_empty() => Ok(None),
+            Ok(path) if is_beside(path.as_str()) => Err(Fault::WrongWords),
+            Ok(path) => Ok(Some(LogFile { rt, path })),
+            Err(VarError::NotPresent) => Ok(None),
             Err(VarError::OutOfMemory) => Err(Fault::NoMemory),
             Err(_) => Err(Fault::WrongWords),
         }
@@ -94,11 +108,6 @@ impl<R: Files<File = File> + Drop> LogFile<R> {
 }
 
 impl<R: Files<File = File> + Drop> LogFile<R> {
-    // Whether it is one of these disks, or lies beside one, by its name.
-    fn is_of(&self, disks: &[&str]) -> bool {
-        disks.iter().any(|disk| is_beside(self.path.as_str(), disk))
-    }
-
     // Whether this file, which it is, is one of these disks, or lies beside one, whatever its names.
     fn is_one_of(&self, file: &File, disks: &[&str]) -> Result<bool, AllocError>
     where
@@ -134,7 +143,7 @@ impl<R: Files<File = File> + Drop> LogFile<R> {
     where
         R: AllocGlobal,
     {
-        if self.is_of(disks) {
+        if disks.contains(&self.path.as_str()) {
             return Err(NotHeld::Disk);
         }
         let file = match self.opened() {
@@ -163,8 +172,13 @@ pub fn write_one<R: Clock + Env + AllocGlobal + Files<File = File> + Clone + Dro
     let Some(page) = LogFile::named(rt.clone()?)? else {
         return Ok(());
     };
-    // No disk that is served gets a line.
-    let Ok(file) = page.held(&[]) else {
+    // No disk gets a line: none that is served, and none that a word names, or that lies beside one.
+    let names = names(rt)?;
+    let mut disks = Vec::new(alloc);
+    for name in names.as_slice() {
+        disks.push(name.as_str())?;
+    }
+    let Ok(file) = page.held(disks.as_slice()) else {
         return Ok(());
     };
     let mut line = String::new(alloc);

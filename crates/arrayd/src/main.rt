@@ -28,6 +28,7 @@ use std::process::ExitCode;
 use std::rt::Files;
 use std::time::Clock;
 use std::{env, io};
+use wrong_words::Shown;
 
 // The program's words, its own name first.
 fn all_words(rt: &(impl Env + AllocGlobal)) -> Result<Vec<String>, Fault> {
@@ -74,7 +75,7 @@ fn held_log<R: AllocGlobal + Files<File = File> + Drop>(
         Err(NotHeld::Disk) => Err(Fault::WrongWords),
         Err(NotHeld::NoMemory) => Err(Fault::NoMemory),
         Err(NotHeld::Closed(error)) => {
-            let path = file.path();
+            let path = Shown(file.path());
             let _ = eprintln!(rt; "arrayd: cannot write the log: errno {error}: {path}");
             Ok(None)
         }
@@ -103,6 +104,7 @@ fn complain(rt: &impl Eprint, fault: Fault, of: &str) -> ExitCode
 {
     let before = if of.is_empty() { "" } else { ": " };
     let ending = ending_of(fault, of);
+    let of = Shown(of);
     let _ = eprintln!(rt; "arrayd: {fault}{before}{of}{ending}");
     fault.status()
 }

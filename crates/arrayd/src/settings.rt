@@ -38,6 +38,9 @@ fn deadline<R: Env + AllocGlobal>(rt: &R) -> Result<Option<Duration>, Fault> {
     let Some(text) = value_of(rt, DEADLINE)? else {
         return Ok(None);
     };
+    if !text.as_bytes().iter().all(|digit| digit.is_ascii_digit()) {
+        return Err(Fault::WrongWords);
+    }
     match text.parse::<u64>() {
         Ok(seconds) if seconds >= 1 && seconds <= LONGEST => {
             Ok(Some(Duration::from_secs(seconds)))

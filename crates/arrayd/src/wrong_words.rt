@@ -1,13 +1,36 @@
-//! What of a command line that is wrong is told.
+//! What of a command line that is wrong is told, and how a name is shown.
 
 use std::alloc::{AllocError, Global};
+use std::fmt::{self, Display, Formatter};
+
+// Whether this character moves a terminal, or ends a line.
+fn is_control(character: char) -> bool {
+    matches!(character, '\0'..='\u{1F}' | '\u{7F}'..='\u{9F}')
+}
+
+/// A name as it is shown in a line: a character that moves a terminal, or ends the line, by its bytes.
+#[derive(Clone, Copy)]
+pub struct Shown<'a>(pub &'a str);
+
+impl Display for Shown<'_> {
+    fn fmt<W: fmt::Write>(&self, f: &mut Formatter<W>) -> fmt::Result {
+        for character in self.0.chars() {
+            let code = u32::from(character);
+            if !is_control(character) {
+                f.write_char(character)?;
+            } else if code < 0x80 {
+                write!(f, "\\x{code:02x}")?;
+            } else {
+                write!(f, "\\xc2\\x{code:02x}")?;
+            }
+        }
+        Ok(())
+    }
+}
 
 // Whether a value can be shown in a line: it is not empty, and no character of it moves a terminal.
 fn is_shown(value: &str) -> bool {
-    !value.is_empty()
-        && !value.chars().any(
-            |character| matches!(character, '\0'..='\u{1F}' | '\u{7F}'..='\u{9F}'),
-        )
+    !value.is_empty() && !value.chars().any(is_control)
 }
 
 /// An option and its value, where that can be shown.
