@@ -36,6 +36,24 @@ fn is_beside(path: &str) -> bool {
     path.ends_with(".reg") || path.ends_with(".unit")
 }
 
+// Reads a word of the command line into this room: how long it is, 0 where it is too long. None: there is no
+// such word.
+fn read_word<R: Env>(rt: &R, place: usize, room: &mut Vec<u8>) -> Option<usize> {
+    match rt.arg(place, room.as_mut_slice()) {
+        Ok(length) => Some(length),
+        Err(FillError::TooLong) => Some(0),
+        Err(FillError::NotPresent) => None,
+    }
+}
+
+// Keeps a word that may name a file.
+fn keep_word(alloc: Global, names: &mut Vec<String>, word: &[u8]) -> Result<(), Fault> {
+    if let Ok(name) = str::from_utf8(word) {
+        names.push(String::from_str(alloc, name)?)?;
+    }
+    Ok(())
+}
+
 // The words of the command line that may name a file, whatever is wrong with others.
 fn names<R: Env + AllocGlobal>(rt: &R) -> Result<Vec<String>, Fault> {
     let mut names = Vec::new(rt.alloc());
@@ -44,13 +62,11 @@ fn names<R: Env + AllocGlobal>(rt: &R) -> Result<Vec<String>, Fault> {
         return Err(Fault::NoMemory);
     }
     for place in 1..usize::MAX {
-        let word = match rt.arg(place, room.as_mut_slice()) {
-            Ok(length) => room.as_slice().get(..length).unwrap_or(&[]),
-            Err(FillError::NotPresent) => break,
-            Err(FillError::TooLong) => continue,
+        let Some(length) = read_word(rt, place, &mut room) else {
+            break;
         };
-        if let Ok(name) = str::from_utf8(word) {
-            names.push(String::from_str(rt.alloc(), name)?)?;
+        if let Some(word) = room.get(..length) {
+            keep_word(rt.alloc(), &mut names, word)?;
         }
     }
     Ok(names)
