@@ -46,10 +46,19 @@ fn read_word<R: Env>(rt: &R, place: usize, room: &mut Vec<u8>) -> Option<usize> 
     }
 }
 
-// Keeps a word that may name a file.
+// What stands behind the first `=` of a word, all of it where there is none.
+fn value_in(word: &str) -> &str {
+    match word.split_once('=') {
+        Some((_, value)) => value,
+        None => word,
+    }
+}
+
+// Keeps a word that may name a file, or whose value may.
 fn keep_word(alloc: Global, names: &mut Vec<String>, word: &[u8]) -> Result<(), Fault> {
     if let Ok(name) = str::from_utf8(word) {
         names.push(String::from_str(alloc, name)?)?;
+        names.push(String::from_str(alloc, value_in(name))?)?;
     }
     Ok(())
 }
