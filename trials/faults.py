@@ -56,7 +56,8 @@ VARIABLES = [
 
 # The words of a start that is refused before its disk is looked at, what more its environment has, and what is named.
 BEFORE_THE_DISK = [
-    (["--bogus", "disk"], {}, "'--bogus' found"), (["--target", "BAD", "disk"], {}, "--target BAD"), (["disk"], {"ARRAYD_X": "1"}, "ARRAYD_X"),
+    (["--bogus", "disk"], {}, "'--bogus' found"), (["--bogus=disk"], {}, "'--bogus' found"),
+    (["--target", "BAD", "disk"], {}, "--target BAD"), (["disk"], {"ARRAYD_X": "1"}, "ARRAYD_X"),
     (["disk"], {"ARRAYD_HTTP": "x"}, "ARRAYD_HTTP"), (["\udcff", "x" * 5000, "disk"], {}, "a word that is not UTF-8"),
 ]
 
