@@ -383,19 +383,21 @@ def failure_that_is_acknowledged(folder):
 
 @case
 def reads_that_failed_at_two_places(folder):
-    """That the blocks of one of them are read does not make the other one well."""
-    failing = Failing(folder)
-    with Array([made(f"{folder}/disk", 4096)], more={"ARRAYD_HTTP": f"127.0.0.1:{AT}", **failing.environment}) as array:
-        session = host()
-        failing.let("pread", errno.EIO, times=EVER)
-        for lba in (9, 200):
-            is_so("a read", end_of(session.command(0, [0x28, 0, 0, 0, 0, lba, 0, 0, 1, 0], expected=512)), "03 11/00")
-        failing.stop()
-        session.read(0, 200, 1)
-        wrong(0, "calls_failed")
-        session.read(0, 9, 192)
-        over(0, "disk", "read", "EIO")
-        array.quit()
+    """That the blocks of one of them are read does not make the other one well, with a deadline and without, where much is read beside."""
+    for number, more in enumerate(({}, {"ARRAYD_DEADLINE": "20"})):
+        failing = Failing(folder)
+        more = {"ARRAYD_HTTP": f"127.0.0.1:{AT}", **failing.environment, **more}
+        with Array([made(f"{folder}/disk{number}", 4096)], more=more) as array:
+            session = host()
+            failing.let("pread", errno.EIO, times=EVER)
+            for lba in (9, 200):
+                is_so("a read", end_of(session.command(0, [0x28, 0, 0, 0, 0, lba, 0, 0, 1, 0], expected=512)), "03 11/00")
+            failing.stop()
+            session.read(0, 200, 1)
+            wrong(0, "calls_failed")
+            session.read(0, 9, 192)
+            over(0, "disk", "read", "EIO")
+            array.quit()
 
 
 @case

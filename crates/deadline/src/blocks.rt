@@ -9,7 +9,7 @@ ghost use Rattle.deadline.specs.Counted.{CountsRead, CountsWrite};
 ghost use Rattle.deadline.specs.Answers.{calls, HasAnswered, HasFlushed, HasOpened, HasRead, HasWritten, WereGiven};
 
 use crate::request::{DeviceRunner, Request, Wanted};
-use block_file::{Blocks, DeviceFailed, Opener};
+use block_file::{BLOCK_LENGTH, Blocks, DeviceFailed, Opener};
 use disk_files::FileDevice;
 use disk_preparer::{BlockMemory, Node, OnDisk};
 use std::alloc::Global;
@@ -359,6 +359,8 @@ impl<R: Wait + Clock + Drop, B: FileDevice, O: Opener<B>> Blocks for Deadlined<R
         let writes = self.writes;
         if writes < u64::MAX && memory.holds(self.node, u64::from(first), writes) {
             asker.keep(request);
+            let blocks = memory.bytes.len() / BLOCK_LENGTH;
+            asker.watch().was_read(first, blocks);
             return Ok(memory.bytes);
         }
         match read_into_by(asker, turn, request, self.node, first, memory.bytes) {

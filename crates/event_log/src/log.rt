@@ -46,6 +46,8 @@ pub(crate) struct Waiting {
     // Reservations and resets, so that nothing else that hosts do keeps these from being told; and calls on files that failed.
     pub(crate) fences: Strangers,
     pub(crate) failures: Strangers,
+    // What the clock said when somebody who has one came last.
+    now: Duration,
 }
 
 /// What all hands that hold a log share.
@@ -76,33 +78,36 @@ impl Waiting {
             hosts: Strangers::of_hosts(),
             fences: Strangers::of_hosts(),
             failures: Strangers::of_hosts(),
+            now: Duration::ZERO,
         })
     }
 
     // Keeps the line of an event, or counts it among those of which one line tells how many they are. False: there was no room for it.
-    fn take(&mut self, now: Duration, event: &Event<'_>) -> bool {
+    fn take(&mut self, event: &Event<'_>) -> bool {
+        let now = self.now.as_secs();
         let is_told = match event {
-            Event::ConnectionEnded(..) => self.strangers.is_told(now.as_secs()),
-            Event::LoginRefused(..) => self.refused.is_told(now.as_secs()),
+            Event::ConnectionEnded(..) => self.strangers.is_told(now),
+            Event::LoginRefused(..) => self.refused.is_told(now),
             Event::LoggedIn(_, _, _, SessionType::Discovery)
             | Event::SessionEnded(_, _, _, SessionType::Discovery, _) => {
-                self.discoveries.is_told(now.as_secs())
+                self.discoveries.is_told(now)
             }
             Event::LoggedIn(..)
             | Event::SessionEnded(..)
             | Event::GroupsSet(_, _, _, _, By::Session(_))
             | Event::NotMoved(_, _, _, By::Session(_))
             | Event::CommandFailed(..)
-            | Event::Busy(..) => self.hosts.is_told(now.as_secs()),
-            Event::Reserved(..) | Event::Reset(..) => self.fences.is_told(now.as_secs()),
-            Event::DeviceFailed(..) => self.failures.is_told(now.as_secs()),
+            | Event::Busy(..) => self.hosts.is_told(now),
+            Event::Reserved(..) | Event::Reset(..) => self.fences.is_told(now),
+            Event::DeviceFailed(..) => self.failures.is_told(now),
             _ => true,
         };
         !is_told || self.keep(event)
     }
 
     /// How many lines were not kept of what hosts do that are in, and of what came of it, where the spell is over, or the log ends.
-    pub(crate) fn sum_of_hosts(&mut self, now: u64, is_last: bool) -> u64 {
+    pub(crate) fn sum_of_hosts(&mut self, is_last: bool) -> u64 {
+        let now = self.now.as_secs();
         let deeds = self.hosts.sum(now, is_last);
         let fences = self.fences.sum(now, is_last);
         let failures = self.failures.sum(now, is_last);
@@ -122,8 +127,9 @@ impl Waiting {
             && self.untimed.push_str(self.line.as_str()).is_ok()
     }
 
-    /// Gives each line that has none this time: how many lines found no room.
-    pub(crate) fn give_time(&mut self, now: Stamp) -> u64 {
+    // Gives each line that has none the time of now: how many lines found no room.
+    fn give_time(&mut self) -> u64 {
+        let now = Stamp::of(self.now);
         let mut dropped = 0u64;
         for text in self.untimed.lines() {
             self.line.clear();
@@ -136,6 +142,12 @@ impl Waiting {
         }
         self.untimed.clear();
         dropped
+    }
+
+    /// It is so late now, also for the lines that wait for a time: how many of them found no room.
+    pub(crate) fn is_at(&mut self, now: Duration) -> u64 {
+        self.now = now;
+        self.give_time()
     }
 }
 
@@ -328,7 +340,7 @@ impl Log {
             return;
         };
         let is_kept = match shared.reach() {
-            Some(mut waiting) => waiting.keep(event),
+            Some(mut waiting) => waiting.take(event),
             None => false,
         };
         if !is_kept {
@@ -348,8 +360,9 @@ impl Log {
         };
         let dropped = match shared.reach() {
             Some(mut waiting) => {
-                let is_kept = waiting.take(now, event);
-                let untold = waiting.give_time(Stamp::of(now));
+                waiting.now = now;
+                let is_kept = waiting.take(event);
+                let untold = waiting.give_time();
                 if is_kept {
                     untold
                 } else {

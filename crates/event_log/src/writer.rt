@@ -83,9 +83,9 @@ fn take<R: Wait + Clock>(rt: &R, shared: &Shared, lines: &mut String, is_last: b
     lines.clear();
     let (untold, hosts, ended, refused, discoveries) = {
         let mut waiting = shared.waiting.lock(rt);
-        let untold = waiting.give_time(now);
+        let untold = waiting.is_at(since);
         mem::swap(&mut waiting.lines, lines);
-        let hosts = waiting.sum_of_hosts(since.as_secs(), is_last);
+        let hosts = waiting.sum_of_hosts(is_last);
         let ended = waiting.strangers.sum(since.as_secs(), is_last);
         let refused = waiting.refused.sum(since.as_secs(), is_last);
         let discoveries = waiting.discoveries.sum(since.as_secs(), is_last);

@@ -202,10 +202,8 @@ fn written_of_failures<R: Files<File = File> + Wait + Clock + Abort>(
     let place = Place { first: 0, count: 1 };
     for _ in 0..count {
         log.tell(rt, &Event::Busy(0, Operation::Read, who, 1));
-        log.tell(
-            rt,
-            &Event::DeviceFailed(0, Part::Disk, Call::Write, place, 28),
-        );
+        // as a file tells it, which has no clock
+        log.note(&Event::DeviceFailed(0, Part::Disk, Call::Write, place, 28));
     }
     for _ in 0..5 {
         log.tell(rt, &Event::Reset(0, who, 1));

@@ -4,7 +4,7 @@ ghost use Rattle.timed_calls.specs.Back.{had_come_back};
 
 use disk_preparer::Node;
 use event_log::Log;
-use events::{Call, Event, Part};
+use events::{Call, Event, Part, Place};
 use std::sync::atomic::{AtomicBool, AtomicU64, Ordering};
 use std::sync::{Mutex, Wait};
 use std::time::{Clock, Duration};
@@ -120,6 +120,12 @@ impl Watch {
     /// So many have.
     pub fn wrote(&self, writes: u64) {
         self.writes.store(writes, Ordering::Release);
+    }
+
+    /// So many blocks were read from the first on, by whatever handle.
+    pub fn was_read(&self, first: u32, blocks: usize) {
+        let count = u32::try_from(blocks).unwrap_or(u32::MAX);
+        self.log.read(self.unit, self.part, Place { first, count });
     }
 
     /// The device is asked to write so many bytes. Nobody else writes.
