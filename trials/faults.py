@@ -8,6 +8,7 @@ usage: trials/faults.py
 
 import os
 import socket
+import stat
 import subprocess
 import sys
 import tempfile
@@ -52,6 +53,8 @@ VARIABLES = [
     *(({"ARRAYD_LOG": name}, "ARRAYD_LOG") for name in ("disk", "disk.reg", "disk.unit", "./disk", "link", "linked.reg", "linked")),
     # it has no name of a file that may come beside a disk
     *(({"ARRAYD_LOG": name}, "ARRAYD_LOG") for name in ("./odd.reg", "./odd.unit", "other.unit")),
+    # it is no link that leads nowhere, and no block device
+    *(({"ARRAYD_LOG": name}, "ARRAYD_LOG") for name in ("nowhere", "device")),
 ]
 
 # The words of a start that is refused before its disk is looked at, what more its environment has, and what is named.
@@ -85,6 +88,14 @@ def refused(words, fault, named, **how):
         sys.exit(f"{words}: {errors!r} does not name {named!r}")
 
 
+def block_device(name):
+    """A block device that no driver has; for who can make none, a link that leads nowhere."""
+    try:
+        os.mknod(name, stat.S_IFBLK | 0o600, os.makedev(60, 0))
+    except PermissionError:
+        os.symlink("none", name)
+
+
 def tells_of_itself():
     with open(f"{TOP}/VERSION", encoding="utf-8") as file:
         version = file.read().strip()
@@ -109,7 +120,7 @@ def logs():
     for more, named in VARIABLES:
         refused(["disk"], WRONG, f": {named}\n", more=more)
     for words, more, named in BEFORE_THE_DISK:
-        for log in ("disk", "./disk", "link", "disk.reg", "linked", "odd.unit"):
+        for log in ("disk", "./disk", "link", "disk.reg", "linked", "odd.unit", "nowhere", "device"):
             refused(words, WRONG, f"{named}\n", more={**more, "ARRAYD_LOG": log})
     expect("a log that is refused", [name for name, text in in_files().items() if text != before.get(name)], [])
     os.mkfifo("pipe")
@@ -154,6 +165,8 @@ def main():
             made(name, blocks)
         os.truncate("odd", 16 * 512 + 1)
         os.symlink("disk", "link")
+        os.symlink("new.reg", "nowhere")
+        block_device("device")
         tells_of_itself()
         closed_descriptors()
         for words, fault, named in ROWS:

@@ -6,8 +6,8 @@ use events::{Event, Stamp, put_line};
 use std::alloc::{AllocError, Global};
 use std::env::{self, Env, FillError, VarError};
 use std::fs::{self, File, OpenFile, TryLockError};
-use std::io::Write;
-use std::os::unix::fs::MetadataExt;
+use std::io::{ErrorKind, Write};
+use std::os::unix::fs::{FileTypeExt, MetadataExt};
 use std::rt::Files;
 use std::time::Clock;
 
@@ -34,6 +34,15 @@ pub enum NotHeld {
 // Whether this is the name of a file beside a disk, whether the disk is there or not.
 fn is_beside(path: &str) -> bool {
     path.ends_with(".reg") || path.ends_with(".unit")
+}
+
+// Whether no log may have this name: it leads to a block device, which may be a disk, or it is a link to what is not there. Opened, that
+// would be made, and may be what comes beside a disk.
+fn is_unfit<R: Files<File = File>>(rt: &R, path: &str) -> bool {
+    match fs::metadata(rt, path) {
+        Ok(metadata) => metadata.file_type().is_block_device(),
+        Err(e) => e.kind() == ErrorKind::NotFound && fs::symlink_metadata(rt, path).is_ok(),
+    }
 }
 
 // Reads a word of the command line into this room: how long it is, 0 where it is too long. None: there is no
@@ -97,14 +106,16 @@ pub struct LogFile<R: Files<File = File> + Drop> {
 }
 
 impl<R: Files<File = File> + Drop> LogFile<R> {
-    /// The file that the environment names, where it names one. One that may lie beside a disk is wrong, and is not made.
+    /// The file that the environment names, where it names one. One that may be a disk, or lie beside one, is wrong, and is not made.
     pub fn named(rt: R) -> Result<Option<LogFile<R>>, Fault>
     where
         R: Env + AllocGlobal,
     {
         match env::var(&rt, VARIABLE) {
             Ok(path) if path.is_empty() => Ok(None),
-            Ok(path) if is_beside(path.as_str()) => Err(Fault::WrongWords),
+            Ok(path) if is_beside(path.as_str()) || is_unfit(&rt, path.as_str()) => {
+                Err(Fault::WrongWords)
+            }
             Ok(path) => Ok(Some(LogFile { rt, path })),
             Err(VarError::NotPresent) => Ok(None),
             Err(VarError::OutOfMemory) => Err(Fault::NoMemory),
