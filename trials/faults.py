@@ -53,6 +53,8 @@ VARIABLES = [
     *(({"ARRAYD_LOG": name}, "ARRAYD_LOG") for name in ("disk", "disk.reg", "disk.unit", "./disk", "link", "linked.reg", "linked")),
     # it has no name of a file that may come beside a disk
     *(({"ARRAYD_LOG": name}, "ARRAYD_LOG") for name in ("./odd.reg", "./odd.unit", "other.unit")),
+    # it has no name beside which files of a disk lie, whether the disk is there or not
+    *(({"ARRAYD_LOG": name}, "ARRAYD_LOG") for name in ("noreg", "./noreg", "gone")),
     # it is no link that leads nowhere, and no block device
     *(({"ARRAYD_LOG": name}, "ARRAYD_LOG") for name in ("nowhere", "device")),
 ]
@@ -120,7 +122,7 @@ def logs():
     for more, named in VARIABLES:
         refused(["disk"], WRONG, f": {named}\n", more=more)
     for words, more, named in BEFORE_THE_DISK:
-        for log in ("disk", "./disk", "link", "disk.reg", "linked", "odd.unit", "nowhere", "device"):
+        for log in ("disk", "./disk", "link", "disk.reg", "linked", "odd.unit", "noreg", "gone", "nowhere", "device"):
             refused(words, WRONG, f"{named}\n", more={**more, "ARRAYD_LOG": log})
     expect("a log that is refused", [name for name, text in in_files().items() if text != before.get(name)], [])
     os.mkfifo("pipe")
@@ -161,7 +163,7 @@ def closed_descriptors():
 def main():
     with tempfile.TemporaryDirectory() as folder:
         os.chdir(folder)
-        for name, blocks in [("disk", 16), ("odd", 16), ("empty", 0), ("noreg", 16), ("noreg.reg", 1)]:
+        for name, blocks in [("disk", 16), ("odd", 16), ("empty", 0), ("noreg", 16), ("noreg.reg", 1), ("gone.unit", 1)]:
             made(name, blocks)
         os.truncate("odd", 16 * 512 + 1)
         os.symlink("disk", "link")

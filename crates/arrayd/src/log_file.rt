@@ -17,13 +17,16 @@ pub const VARIABLE: &str = "ARRAYD_LOG";
 /// What stands behind the name of a disk in its own name and in those of the files beside it.
 const BESIDE: [&str; 3] = ["", ".reg", ".unit"];
 
+/// What stands there in the names of the files beside it, which an array leaves.
+const LEFT: [&str; 2] = [".reg", ".unit"];
+
 /// The most bytes of a word that may name a file.
 const ROOM: usize = 4096;
 
 /// Why the file of the log is not held.
 #[derive(Drop)]
 pub enum NotHeld {
-    /// It is a disk, or a file beside one.
+    /// It is a disk, was one, or is a file beside one.
     Disk,
     /// For want of memory.
     NoMemory,
@@ -161,6 +164,21 @@ impl<R: Files<File = File> + Drop> LogFile<R> {
         Ok(false)
     }
 
+    // Whether a file lies beside it that an array leaves beside each disk that it has served.
+    fn was_served(&self) -> Result<bool, AllocError>
+    where
+        R: AllocGlobal,
+    {
+        for ending in LEFT {
+            let mut path = String::from_str(self.rt.alloc(), self.path())?;
+            path.push_str(ending)?;
+            if fs::symlink_metadata(&self.rt, path.as_str()).is_ok() {
+                return Ok(true);
+            }
+        }
+        Ok(false)
+    }
+
     // The file, unless it is one of these disks, or lies beside one.
     fn unless_disk(&self, file: File, disks: &[&str]) -> Result<File, NotHeld>
     where
@@ -181,6 +199,11 @@ impl<R: Files<File = File> + Drop> LogFile<R> {
     {
         if disks.contains(&self.path.as_str()) {
             return Err(NotHeld::Disk);
+        }
+        match self.was_served() {
+            Ok(false) => {}
+            Ok(true) => return Err(NotHeld::Disk),
+            Err(_) => return Err(NotHeld::NoMemory),
         }
         let file = match self.opened() {
             Ok(file) => file,
