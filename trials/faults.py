@@ -63,7 +63,13 @@ VARIABLES = [
 BEFORE_THE_DISK = [
     (["--bogus", "disk"], {}, "'--bogus' found"), (["--bogus=disk"], {}, "'--bogus' found"),
     (["--target", "BAD", "disk"], {}, "--target BAD"), (["disk"], {"ARRAYD_X": "1"}, "ARRAYD_X"),
-    (["disk"], {"ARRAYD_HTTP": "x"}, "ARRAYD_HTTP"), (["\udcff", "x" * 5000, "disk"], {}, "a word that is not UTF-8"),
+    (["disk"], {"ARRAYD_HTTP": "x"}, "ARRAYD_HTTP"),
+]
+
+# Words of which one is not looked at, so that no log gets a line: it is no text, or too long. And what is named.
+NOT_LOOKED_AT = [
+    (["\udcff", "x" * 5000, "disk"], "a word that is not UTF-8"), (["disk\udcff"], "a word that is not UTF-8"),
+    ([f"--bogus={'./' * 2043}disk"], "' found"),
 ]
 
 # Which port is taken, counted from P on, and how many portals each controller is to have.
@@ -124,6 +130,9 @@ def logs():
     for words, more, named in BEFORE_THE_DISK:
         for log in ("disk", "./disk", "link", "disk.reg", "linked", "odd.unit", "noreg", "gone", "nowhere", "device"):
             refused(words, WRONG, f"{named}\n", more={**more, "ARRAYD_LOG": log})
+    for words, named in NOT_LOOKED_AT:
+        for log in ("disk", "no_text", "lines"):
+            refused(words, WRONG, f"{named}\n", more={"ARRAYD_LOG": log})
     expect("a log that is refused", [name for name, text in in_files().items() if text != before.get(name)], [])
     os.mkfifo("pipe")
     for words, more, named in BEFORE_THE_DISK:
@@ -168,6 +177,8 @@ def main():
         os.truncate("odd", 16 * 512 + 1)
         os.symlink("disk", "link")
         os.symlink("new.reg", "nowhere")
+        # a disk whose name is no text has another one that is
+        os.link(made("disk\udcff", 16), "no_text")
         block_device("device")
         tells_of_itself()
         closed_descriptors()

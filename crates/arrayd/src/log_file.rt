@@ -48,13 +48,12 @@ fn is_unfit<R: Files<File = File>>(rt: &R, path: &str) -> bool {
     }
 }
 
-// Reads a word of the command line into this room: how long it is, 0 where it is too long. None: there is no
-// such word.
-fn read_word<R: Env>(rt: &R, place: usize, room: &mut Vec<u8>) -> Option<usize> {
+// Reads a word of the command line into this room: how long it is. None: there is no such word. One that is too long is wrong.
+fn read_word<R: Env>(rt: &R, place: usize, room: &mut Vec<u8>) -> Result<Option<usize>, Fault> {
     match rt.arg(place, room.as_mut_slice()) {
-        Ok(length) => Some(length),
-        Err(FillError::TooLong) => Some(0),
-        Err(FillError::NotPresent) => None,
+        Ok(length) => Ok(Some(length)),
+        Err(FillError::NotPresent) => Ok(None),
+        Err(FillError::TooLong) => Err(Fault::WrongWords),
     }
 }
 
@@ -66,16 +65,17 @@ fn value_in(word: &str) -> &str {
     }
 }
 
-// Keeps a word that may name a file, or whose value may.
+// Keeps a word that may name a file, or whose value may. One that is not UTF-8 is wrong: it may name a file that no name here can.
 fn keep_word(alloc: Global, names: &mut Vec<String>, word: &[u8]) -> Result<(), Fault> {
-    if let Ok(name) = str::from_utf8(word) {
-        names.push(String::from_str(alloc, name)?)?;
-        names.push(String::from_str(alloc, value_in(name))?)?;
-    }
+    let Ok(name) = str::from_utf8(word) else {
+        return Err(Fault::WrongWords);
+    };
+    names.push(String::from_str(alloc, name)?)?;
+    names.push(String::from_str(alloc, value_in(name))?)?;
     Ok(())
 }
 
-// The words of the command line that may name a file, whatever is wrong with others.
+// The words of the command line that may name a file, unless one of them cannot be looked at.
 fn names<R: Env + AllocGlobal>(rt: &R) -> Result<Vec<String>, Fault> {
     let mut names = Vec::new(rt.alloc());
     let mut room = Vec::new(rt.alloc());
@@ -83,7 +83,7 @@ fn names<R: Env + AllocGlobal>(rt: &R) -> Result<Vec<String>, Fault> {
         return Err(Fault::NoMemory);
     }
     for place in 1..usize::MAX {
-        let Some(length) = read_word(rt, place, &mut room) else {
+        let Some(length) = read_word(rt, place, &mut room)? else {
             break;
         };
         if let Some(word) = room.get(..length) {
@@ -231,7 +231,8 @@ pub fn write_one<R: Clock + Env + AllocGlobal + Files<File = File> + Clone + Dro
     let Some(page) = LogFile::named(rt.clone()?)? else {
         return Ok(());
     };
-    // No disk gets a line: none that is served, and none that a word names, or that lies beside one.
+    // No disk gets a line: none that is served, and none that a word names, or that lies beside one. Where a word cannot be looked at,
+    // none is written.
     let names = names(rt)?;
     let mut disks = Vec::new(alloc);
     for name in names.as_slice() {
