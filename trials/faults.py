@@ -24,6 +24,9 @@ ROWS = [
     ("", WRONG, "no DISK"), ("--port 3260 --array=1", WRONG, "no DISK"), ("--help disk", WRONG, "--help beside other words"),
     ("--once --version", WRONG, "--version beside other words"), ("--port 0 disk", WRONG, "--port"),
     ("--port 65529 disk", WRONG, "65529"), ("--portals 5 disk", WRONG, "--portals"), ("--array 4294967296 disk", WRONG, "4294967296"),
+    # a number has digits alone
+    ("--port +4700 disk", WRONG, "--port +4700"), ("--portals=+1 disk", WRONG, "--portals"), ("disk --array +1", WRONG, "--array +1"),
+    ("-- --port +4700", "cannot use unit 0", "it is not there, errno 2: --port"),
     ("--host localhost disk", WRONG, "--host localhost"), ("--host=::1 disk", WRONG, "--host"), ("--target= disk", WRONG, "--target"),
     ("--target array disk", WRONG, "--target array"), ("--target iqn.2000-01.Test:array disk", WRONG, "--target"),
     ("--target iqn.2000-1.test:array disk", WRONG, "--target"), ("--target eui.0123456789abcde disk", WRONG, "--target"), ("--once disk", WRONG, "a DISK beside --once"),
