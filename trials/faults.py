@@ -8,6 +8,7 @@ usage: trials/faults.py
 
 import os
 import socket
+import stat
 import subprocess
 import sys
 import tempfile
@@ -23,6 +24,9 @@ ROWS = [
     ("", WRONG, "no DISK"), ("--port 3260 --array=1", WRONG, "no DISK"), ("--help disk", WRONG, "--help beside other words"),
     ("--once --version", WRONG, "--version beside other words"), ("--port 0 disk", WRONG, "--port"),
     ("--port 65529 disk", WRONG, "65529"), ("--portals 5 disk", WRONG, "--portals"), ("--array 4294967296 disk", WRONG, "4294967296"),
+    # a number has digits alone
+    ("--port +4700 disk", WRONG, "--port +4700"), ("--portals=+1 disk", WRONG, "--portals"), ("disk --array +1", WRONG, "--array +1"),
+    ("-- --port +4700", "cannot use unit 0", "it is not there, errno 2: --port"),
     ("--host localhost disk", WRONG, "--host localhost"), ("--host=::1 disk", WRONG, "--host"), ("--target= disk", WRONG, "--target"),
     ("--target array disk", WRONG, "--target array"), ("--target iqn.2000-01.Test:array disk", WRONG, "--target"),
     ("--target iqn.2000-1.test:array disk", WRONG, "--target"), ("--target eui.0123456789abcde disk", WRONG, "--target"), ("--once disk", WRONG, "a DISK beside --once"),
@@ -52,13 +56,23 @@ VARIABLES = [
     *(({"ARRAYD_LOG": name}, "ARRAYD_LOG") for name in ("disk", "disk.reg", "disk.unit", "./disk", "link", "linked.reg", "linked")),
     # it has no name of a file that may come beside a disk
     *(({"ARRAYD_LOG": name}, "ARRAYD_LOG") for name in ("./odd.reg", "./odd.unit", "other.unit")),
+    # it has no name beside which files of a disk lie, whether the disk is there or not
+    *(({"ARRAYD_LOG": name}, "ARRAYD_LOG") for name in ("noreg", "./noreg", "gone")),
+    # it is no link that leads nowhere, and no block device
+    *(({"ARRAYD_LOG": name}, "ARRAYD_LOG") for name in ("nowhere", "device")),
 ]
 
 # The words of a start that is refused before its disk is looked at, what more its environment has, and what is named.
 BEFORE_THE_DISK = [
     (["--bogus", "disk"], {}, "'--bogus' found"), (["--bogus=disk"], {}, "'--bogus' found"),
     (["--target", "BAD", "disk"], {}, "--target BAD"), (["disk"], {"ARRAYD_X": "1"}, "ARRAYD_X"),
-    (["disk"], {"ARRAYD_HTTP": "x"}, "ARRAYD_HTTP"), (["\udcff", "x" * 5000, "disk"], {}, "a word that is not UTF-8"),
+    (["disk"], {"ARRAYD_HTTP": "x"}, "ARRAYD_HTTP"),
+]
+
+# Words of which one is not looked at, so that no log gets a line: it is no text, or too long. And what is named.
+NOT_LOOKED_AT = [
+    (["\udcff", "x" * 5000, "disk"], "a word that is not UTF-8"), (["disk\udcff"], "a word that is not UTF-8"),
+    ([f"--bogus={'./' * 2043}disk"], "' found"),
 ]
 
 # Which port is taken, counted from P on, and how many portals each controller is to have.
@@ -85,6 +99,14 @@ def refused(words, fault, named, **how):
         sys.exit(f"{words}: {errors!r} does not name {named!r}")
 
 
+def block_device(name):
+    """A block device that no driver has; for who can make none, a link that leads nowhere."""
+    try:
+        os.mknod(name, stat.S_IFBLK | 0o600, os.makedev(60, 0))
+    except PermissionError:
+        os.symlink("none", name)
+
+
 def tells_of_itself():
     with open(f"{TOP}/VERSION", encoding="utf-8") as file:
         version = file.read().strip()
@@ -109,8 +131,11 @@ def logs():
     for more, named in VARIABLES:
         refused(["disk"], WRONG, f": {named}\n", more=more)
     for words, more, named in BEFORE_THE_DISK:
-        for log in ("disk", "./disk", "link", "disk.reg", "linked", "odd.unit"):
+        for log in ("disk", "./disk", "link", "disk.reg", "linked", "odd.unit", "noreg", "gone", "nowhere", "device"):
             refused(words, WRONG, f"{named}\n", more={**more, "ARRAYD_LOG": log})
+    for words, named in NOT_LOOKED_AT:
+        for log in ("disk", "no_text", "lines"):
+            refused(words, WRONG, f"{named}\n", more={"ARRAYD_LOG": log})
     expect("a log that is refused", [name for name, text in in_files().items() if text != before.get(name)], [])
     os.mkfifo("pipe")
     for words, more, named in BEFORE_THE_DISK:
@@ -150,10 +175,14 @@ def closed_descriptors():
 def main():
     with tempfile.TemporaryDirectory() as folder:
         os.chdir(folder)
-        for name, blocks in [("disk", 16), ("odd", 16), ("empty", 0), ("noreg", 16), ("noreg.reg", 1)]:
+        for name, blocks in [("disk", 16), ("odd", 16), ("empty", 0), ("noreg", 16), ("noreg.reg", 1), ("gone.unit", 1)]:
             made(name, blocks)
         os.truncate("odd", 16 * 512 + 1)
         os.symlink("disk", "link")
+        os.symlink("new.reg", "nowhere")
+        # a disk whose name is no text has another one that is
+        os.link(made("disk\udcff", 16), "no_text")
+        block_device("device")
         tells_of_itself()
         closed_descriptors()
         for words, fault, named in ROWS:

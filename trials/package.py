@@ -271,6 +271,12 @@ def removed(machine):
     check("a purge that was asked for it takes them", machine.run("ls -d /var/lib/arrayd")[0] != 0)
     machine.run("sync")
     check("and leaves the device to which a link led", machine.run("dd if=/dev/vdb bs=512 skip=7 count=1 status=none")[1] == "seen" * 128)
+    folders = "/etc/arrayd /var/log/arrayd /var/lib/arrayd"
+    machine.run(f"for folder in {folders} /var/lib/arrayd/one; do mkdir -p $folder; mount -t tmpfs none $folder; done; "
+                f"{APT} install /packages/newer.deb; touch /var/lib/arrayd/one/remove-on-purge /var/log/arrayd/log")
+    status, said = machine.run(f"{APT} purge arrayd")
+    check("folders on which something is mounted keep no purge from its end", status == 0, said)
+    check("it empties and leaves them", machine.run(f"find {folders} -mindepth 1")[1].strip() == "/var/lib/arrayd/one")
 
 
 TRIALS = (three_commands, console, confined, upgrade, filtered, missing, file_disk, rebooted, removed)

@@ -6,8 +6,8 @@ use events::{Event, Stamp, put_line};
 use std::alloc::{AllocError, Global};
 use std::env::{self, Env, FillError, VarError};
 use std::fs::{self, File, OpenFile, TryLockError};
-use std::io::Write;
-use std::os::unix::fs::MetadataExt;
+use std::io::{ErrorKind, Write};
+use std::os::unix::fs::{FileTypeExt, MetadataExt};
 use std::rt::Files;
 use std::time::Clock;
 
@@ -17,13 +17,16 @@ pub const VARIABLE: &str = "ARRAYD_LOG";
 /// What stands behind the name of a disk in its own name and in those of the files beside it.
 const BESIDE: [&str; 3] = ["", ".reg", ".unit"];
 
+/// What stands there in the names of the files beside it, which an array leaves.
+const LEFT: [&str; 2] = [".reg", ".unit"];
+
 /// The most bytes of a word that may name a file.
 const ROOM: usize = 4096;
 
 /// Why the file of the log is not held.
 #[derive(Drop)]
 pub enum NotHeld {
-    /// It is a disk, or a file beside one.
+    /// It is a disk, was one, or is a file beside one.
     Disk,
     /// For want of memory.
     NoMemory,
@@ -36,13 +39,21 @@ fn is_beside(path: &str) -> bool {
     path.ends_with(".reg") || path.ends_with(".unit")
 }
 
-// Reads a word of the command line into this room: how long it is, 0 where it is too long. None: there is no
-// such word.
-fn read_word<R: Env>(rt: &R, place: usize, room: &mut Vec<u8>) -> Option<usize> {
+// Whether no log may have this name: it leads to a block device, which may be a disk, or it is a link to what is not there. Opened, that
+// would be made, and may be what comes beside a disk.
+fn is_unfit<R: Files<File = File>>(rt: &R, path: &str) -> bool {
+    match fs::metadata(rt, path) {
+        Ok(metadata) => metadata.file_type().is_block_device(),
+        Err(e) => e.kind() == ErrorKind::NotFound && fs::symlink_metadata(rt, path).is_ok(),
+    }
+}
+
+// Reads a word of the command line into this room: how long it is. None: there is no such word. One that is too long is wrong.
+fn read_word<R: Env>(rt: &R, place: usize, room: &mut Vec<u8>) -> Result<Option<usize>, Fault> {
     match rt.arg(place, room.as_mut_slice()) {
-        Ok(length) => Some(length),
-        Err(FillError::TooLong) => Some(0),
-        Err(FillError::NotPresent) => None,
+        Ok(length) => Ok(Some(length)),
+        Err(FillError::NotPresent) => Ok(None),
+        Err(FillError::TooLong) => Err(Fault::WrongWords),
     }
 }
 
@@ -54,16 +65,17 @@ fn value_in(word: &str) -> &str {
     }
 }
 
-// Keeps a word that may name a file, or whose value may.
+// Keeps a word that may name a file, or whose value may. One that is not UTF-8 is wrong: it may name a file that no name here can.
 fn keep_word(alloc: Global, names: &mut Vec<String>, word: &[u8]) -> Result<(), Fault> {
-    if let Ok(name) = str::from_utf8(word) {
-        names.push(String::from_str(alloc, name)?)?;
-        names.push(String::from_str(alloc, value_in(name))?)?;
-    }
+    let Ok(name) = str::from_utf8(word) else {
+        return Err(Fault::WrongWords);
+    };
+    names.push(String::from_str(alloc, name)?)?;
+    names.push(String::from_str(alloc, value_in(name))?)?;
     Ok(())
 }
 
-// The words of the command line that may name a file, whatever is wrong with others.
+// The words of the command line that may name a file, unless one of them cannot be looked at.
 fn names<R: Env + AllocGlobal>(rt: &R) -> Result<Vec<String>, Fault> {
     let mut names = Vec::new(rt.alloc());
     let mut room = Vec::new(rt.alloc());
@@ -71,7 +83,7 @@ fn names<R: Env + AllocGlobal>(rt: &R) -> Result<Vec<String>, Fault> {
         return Err(Fault::NoMemory);
     }
     for place in 1..usize::MAX {
-        let Some(length) = read_word(rt, place, &mut room) else {
+        let Some(length) = read_word(rt, place, &mut room)? else {
             break;
         };
         if let Some(word) = room.get(..length) {
@@ -97,14 +109,16 @@ pub struct LogFile<R: Files<File = File> + Drop> {
 }
 
 impl<R: Files<File = File> + Drop> LogFile<R> {
-    /// The file that the environment names, where it names one. One that may lie beside a disk is wrong, and is not made.
+    /// The file that the environment names, where it names one. One that may be a disk, or lie beside one, is wrong, and is not made.
     pub fn named(rt: R) -> Result<Option<LogFile<R>>, Fault>
     where
         R: Env + AllocGlobal,
     {
         match env::var(&rt, VARIABLE) {
             Ok(path) if path.is_empty() => Ok(None),
-            Ok(path) if is_beside(path.as_str()) => Err(Fault::WrongWords),
+            Ok(path) if is_beside(path.as_str()) || is_unfit(&rt, path.as_str()) => {
+                Err(Fault::WrongWords)
+            }
             Ok(path) => Ok(Some(LogFile { rt, path })),
             Err(VarError::NotPresent) => Ok(None),
             Err(VarError::OutOfMemory) => Err(Fault::NoMemory),
@@ -150,6 +164,21 @@ impl<R: Files<File = File> + Drop> LogFile<R> {
         Ok(false)
     }
 
+    // Whether a file lies beside it that an array leaves beside each disk that it has served.
+    fn was_served(&self) -> Result<bool, AllocError>
+    where
+        R: AllocGlobal,
+    {
+        for ending in LEFT {
+            let mut path = String::from_str(self.rt.alloc(), self.path())?;
+            path.push_str(ending)?;
+            if fs::symlink_metadata(&self.rt, path.as_str()).is_ok() {
+                return Ok(true);
+            }
+        }
+        Ok(false)
+    }
+
     // The file, unless it is one of these disks, or lies beside one.
     fn unless_disk(&self, file: File, disks: &[&str]) -> Result<File, NotHeld>
     where
@@ -170,6 +199,11 @@ impl<R: Files<File = File> + Drop> LogFile<R> {
     {
         if disks.contains(&self.path.as_str()) {
             return Err(NotHeld::Disk);
+        }
+        match self.was_served() {
+            Ok(false) => {}
+            Ok(true) => return Err(NotHeld::Disk),
+            Err(_) => return Err(NotHeld::NoMemory),
         }
         let file = match self.opened() {
             Ok(file) => file,
@@ -197,7 +231,8 @@ pub fn write_one<R: Clock + Env + AllocGlobal + Files<File = File> + Clone + Dro
     let Some(page) = LogFile::named(rt.clone()?)? else {
         return Ok(());
     };
-    // No disk gets a line: none that is served, and none that a word names, or that lies beside one.
+    // No disk gets a line: none that is served, and none that a word names, or that lies beside one. Where a word cannot be looked at,
+    // none is written.
     let names = names(rt)?;
     let mut disks = Vec::new(alloc);
     for name in names.as_slice() {

@@ -169,6 +169,10 @@ fn options_of<'a, R: Clock + Env + AllocGlobal + Files<File = File> + Eprint + C
 ) -> Result<Options<'a>, ExitCode>
     ensures few { IfOk result (λ options. length options.paths.items ≤ MAX_UNITS) }
 {
+    if let Some(option) = wrong_words::signed(words) {
+        let part = wrong_words::with_word(alloc, words, option).unwrap_or(String::new(alloc));
+        return Err(refuse(rt, alloc, Fault::WrongWords, part.as_str()));
+    }
     match command_line::read(alloc, words) {
         Ok(options) => Ok(options),
         Err(fault) => {

@@ -3,6 +3,9 @@
 use std::alloc::{AllocError, Global};
 use std::fmt::{self, Display, Formatter};
 
+// The options whose values are numbers.
+const NUMBERS: [&str; 3] = ["--array", "--port", "--portals"];
+
 // Whether this character moves a terminal, or ends a line.
 fn is_control(character: char) -> bool {
     matches!(character, '\0'..='\u{1F}' | '\u{7F}'..='\u{9F}')
@@ -52,6 +55,32 @@ fn value_of<'a>(words: &'a [String], option: &str) -> &'a str {
     }
 }
 
+/// An option and the word behind it.
+pub fn with_word(alloc: Global, words: &[String], option: &str) -> Result<String, AllocError> {
+    with_value(alloc, option, value_of(words, option))
+}
+
+// Whether a word is this option, and behind `=` a plus.
+fn has_plus(word: &str, option: &str) -> bool {
+    match word.split_once('=') {
+        Some((name, value)) => name == option && value.starts_with('+'),
+        None => false,
+    }
+}
+
+/// The option whose number begins with a plus, which is no digit, though what reads numbers takes it. Words behind `--` are no options.
+pub fn signed(words: &[String]) -> Option<&'static str> {
+    let end = words.iter().position(|word| word.as_str() == "--");
+    let words = words.get(..end.unwrap_or(words.len())).unwrap_or(words);
+    for option in NUMBERS {
+        let is_behind = words.iter().any(|word| has_plus(word.as_str(), option));
+        if is_behind || value_of(words, option).starts_with('+') {
+            return Some(option);
+        }
+    }
+    None
+}
+
 // Whether a disk is among the words, of which the first is the program's name.
 fn has_disk(words: &[String]) -> bool {
     let mut is_value = true;
@@ -96,7 +125,7 @@ pub fn part(alloc: Global, words: &[String]) -> Result<String, AllocError> {
     let part = command_line::wrong_part(alloc, words)?;
     match part.as_str() {
         "DISK" => String::from_str(alloc, of_disks(words)),
-        "--host" | "--target" => with_value(alloc, part.as_str(), value_of(words, part.as_str())),
+        "--host" | "--target" => with_word(alloc, words, part.as_str()),
         _ => Ok(part),
     }
 }
