@@ -1,5 +1,5 @@
 -- What the thread of a device answers: that the device was called so, and how that ended.
-use Rattle.std.specs.Prelude.{◌≡◌, ◌<◌, ◌≤◌, ◌+◌, ◌*◌, ◌⊎◌, ℕ, ◌/◌, Bool, IsTrue, List, [], length, min}
+use Rattle.std.specs.Prelude.{◌≡◌, ◌<◌, ◌≤◌, ◌+◌, ◌*◌, ◌⊎◌, ℕ, ◌/◌, Bool, IsTrue, List, [], false, length, min}
 use Rattle.block_file.specs.declared.blocks.Blocks as of_blocks
 use Rattle.block_file.specs.declared.blocks.TheConstants.{BLOCK_LENGTH}
 use Rattle.block_file.specs.declared.opener.Opener as of_opener
@@ -31,17 +31,19 @@ pub record Calls (B O : Type 0) : Type 1 where
   pub has_written : Node → ℕ → List ℕ → Type 0
   pub lasts : Node → ℕ → Type 0
   pub writes : B → ℕ
+  pub is_lost : B → Bool
   pub opener : of_opener.Ghosts O B
 
 abbrev pub calls : {B O : Type 0} → of_blocks.Ghosts B → of_place.Ghosts B → (Node → ℕ → List ℕ → Type 0)
-    → (Node → ℕ → List ℕ → Type 0) → (Node → ℕ → Type 0) → (B → ℕ) → of_opener.Ghosts O B → Calls B O
-calls blocks place has_read has_written lasts writes opener = record {
+    → (Node → ℕ → List ℕ → Type 0) → (Node → ℕ → Type 0) → (B → ℕ) → (B → Bool) → of_opener.Ghosts O B → Calls B O
+calls blocks place has_read has_written lasts writes is_lost opener = record {
   blocks = blocks;
   place = place;
   has_read = has_read;
   has_written = has_written;
   lasts = lasts;
   writes = writes;
+  is_lost = is_lost;
   opener = opener;
 }
 
@@ -69,11 +71,13 @@ module _ {B O : Type 0} (c : Calls B O) where
     pub last : writes ≡ min (c.writes before + 1) last_count
     pub wrote : IsTrue c.blocks.claims → c.blocks.contents after ≡ written (c.blocks.contents before) first (run_of bytes)
 
-  -- the device of this file was flushed: a flush of the file has ended well that began behind so many of its writes, or behind more
+  -- the device of this file, of which no flush had failed, was flushed: a flush of the file has ended well that began behind so many of
+  -- its writes, or behind more
   pub record HasFlushed (disk : Node) (writes : ℕ) : Type 0 where
     pub before : B
     pub after : B
     pub over : c.place.disk before ≡ disk
+    pub sound : c.is_lost before ≡ false
     pub settled : IsSettled (c.lasts disk) writes
     pub lasts : IsTrue c.blocks.claims → Only (c.blocks.contents before) (c.blocks.may_hold after)
 

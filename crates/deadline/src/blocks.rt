@@ -121,7 +121,7 @@ fn read_by<R: Wait + Clock + Drop, B: FileDevice, O: Opener<B>>(
     first: u32,
     bytes: &mut [u8],
 ) -> bool
-    ensures answered { IsTrue result → HasRead (calls B.Blocks B.OnDisk B.has_read B.has_written B.lasts B.writes O.Opener)
+    ensures answered { IsTrue result → HasRead (calls B.Blocks B.OnDisk B.has_read B.has_written B.lasts B.writes B.is_lost O.Opener)
         disk first bytes.new }
     ensures rises { writes.old ≤ writes.new }
 {
@@ -146,7 +146,7 @@ fn read_into_by<R: Wait + Clock + Drop, B: FileDevice, O: Opener<B>>(
     first: u32,
     bytes: Vec<u8>,
 ) -> Option<Vec<u8>>
-    ensures read { IfSome result (λ blocks. HasRead (calls B.Blocks B.OnDisk B.has_read B.has_written B.lasts B.writes O.Opener)
+    ensures read { IfSome result (λ blocks. HasRead (calls B.Blocks B.OnDisk B.has_read B.has_written B.lasts B.writes B.is_lost O.Opener)
         disk first blocks.items) }
     ensures many { IfSome result (λ blocks. length blocks.items ≡ length bytes.items) }
 {
@@ -169,7 +169,7 @@ fn write_by<R: Wait + Clock + Drop, B: FileDevice, O: Opener<B>>(
     first: u32,
     bytes: &[u8],
 ) -> Option<u64>
-    ensures answered { IfSome result (λ ended. HasWritten (calls B.Blocks B.OnDisk B.has_read B.has_written B.lasts B.writes O.Opener)
+    ensures answered { IfSome result (λ ended. HasWritten (calls B.Blocks B.OnDisk B.has_read B.has_written B.lasts B.writes B.is_lost O.Opener)
         disk first bytes.now ended) }
     ensures rises { writes.old ≤ writes.new }
 {
@@ -210,7 +210,7 @@ fn done_by<R: Wait + Clock + Drop, B: FileDevice, O: Opener<B>>(
     wanted: Wanted,
 ) -> bool
     ensures { IsTrue result → (writes : ℕ) × (bytes : List ℕ) ×
-        HasAnswered (calls B.Blocks B.OnDisk B.has_read B.has_written B.lasts B.writes O.Opener) disk writes wanted bytes }
+        HasAnswered (calls B.Blocks B.OnDisk B.has_read B.has_written B.lasts B.writes B.is_lost O.Opener) disk writes wanted bytes }
 {
     let request = request.with_room(turn.serial, wanted, 0);
     let Some(answered) = asker.ask(turn, request) else {
@@ -228,7 +228,7 @@ fn flush_by<R: Wait + Clock + Drop, B: FileDevice, O: Opener<B>>(
     disk: Node,
     ended: u64,
 ) -> bool
-    ensures answered { IsTrue result → HasFlushed (calls B.Blocks B.OnDisk B.has_read B.has_written B.lasts B.writes O.Opener)
+    ensures answered { IsTrue result → HasFlushed (calls B.Blocks B.OnDisk B.has_read B.has_written B.lasts B.writes B.is_lost O.Opener)
         disk ended }
     ensures rises { writes.old ≤ writes.new }
 {
@@ -246,7 +246,7 @@ fn flush_by<R: Wait + Clock + Drop, B: FileDevice, O: Opener<B>>(
 impl<R: Wait + Clock + Drop, B: FileDevice, O: Opener<B>> Deadlined<R, B, O> {
     // Whether the device was opened anew.
     pub(crate) fn is_opened_anew(&self) -> bool
-        ensures { IsTrue result → HasOpened (calls B.Blocks B.OnDisk B.has_read B.has_written B.lasts B.writes O.Opener)
+        ensures { IsTrue result → HasOpened (calls B.Blocks B.OnDisk B.has_read B.has_written B.lasts B.writes B.is_lost O.Opener)
             self.now.node self.now.ended }
     {
         let mut asker = self.asker.lock(&self.rt);
@@ -325,7 +325,7 @@ impl<R: Wait + Clock + Drop, B: FileDevice, O: Opener<B>> Blocks for Deadlined<R
     fn read_run(&mut self, first: u32, bytes: &mut [u8]) -> Result<(), DeviceFailed>
         requires { IsRun self.old.count first (length bytes.old) }
         ensures size { self.new.count ≡ self.old.count }
-        ensures answered { OnOk result (HasRead (calls B.Blocks B.OnDisk B.has_read B.has_written B.lasts B.writes O.Opener)
+        ensures answered { OnOk result (HasRead (calls B.Blocks B.OnDisk B.has_read B.has_written B.lasts B.writes B.is_lost O.Opener)
             self.old.node first bytes.new) }
         ensures counted { CountsRead self.old.failed_reads self.old.failed_writes self.new.failed_reads self.new.failed_writes
             result }
@@ -344,7 +344,7 @@ impl<R: Wait + Clock + Drop, B: FileDevice, O: Opener<B>> Blocks for Deadlined<R
         ensures size { self.new.count ≡ self.old.count }
         ensures many { IfOk result (λ blocks. length blocks.items ≡ length memory.bytes.items) }
         ensures answered { IfOk result (λ blocks.
-            WereGiven (calls B.Blocks B.OnDisk B.has_read B.has_written B.lasts B.writes O.Opener)
+            WereGiven (calls B.Blocks B.OnDisk B.has_read B.has_written B.lasts B.writes B.is_lost O.Opener)
             self.old.node first self.new.writes blocks.items) }
         ensures counted { CountsRead self.old.failed_reads self.old.failed_writes self.new.failed_reads self.new.failed_writes
             result }
@@ -375,7 +375,7 @@ impl<R: Wait + Clock + Drop, B: FileDevice, O: Opener<B>> Blocks for Deadlined<R
     fn write_run(&mut self, first: u32, bytes: &[u8]) -> Result<(), DeviceFailed>
         requires { IsRun self.old.count first (length bytes.now) }
         ensures size { self.new.count ≡ self.old.count }
-        ensures answered { OnOk result (HasWritten (calls B.Blocks B.OnDisk B.has_read B.has_written B.lasts B.writes O.Opener)
+        ensures answered { OnOk result (HasWritten (calls B.Blocks B.OnDisk B.has_read B.has_written B.lasts B.writes B.is_lost O.Opener)
             self.old.node first bytes.now self.new.ended) }
         ensures ended { OnOk result (min (self.old.ended + 1) last_count ≤ self.new.ended) }
         ensures told { self.old.ended ≤ self.new.ended }
@@ -395,7 +395,7 @@ impl<R: Wait + Clock + Drop, B: FileDevice, O: Opener<B>> Blocks for Deadlined<R
 
     fn flush(&mut self) -> Result<(), DeviceFailed>
         ensures size { self.new.count ≡ self.old.count }
-        ensures answered { OnOk result (HasFlushed (calls B.Blocks B.OnDisk B.has_read B.has_written B.lasts B.writes O.Opener)
+        ensures answered { OnOk result (HasFlushed (calls B.Blocks B.OnDisk B.has_read B.has_written B.lasts B.writes B.is_lost O.Opener)
             self.old.node self.old.ended) }
         ensures counted { CountsWrite self.old.failed_reads self.old.failed_writes self.new.failed_reads self.new.failed_writes
             result }

@@ -28,7 +28,7 @@ impl<R: Wait + Clock + Drop, B: FileDevice, O: Opener<B>> Opener<Deadlined<R, B,
     ghost claims = { false };
 
     ghost opened = { λ old new. (new.opened ≡ min (old.opened + 1) last_count) × (new.node ≡ old.node) × (new.ended ≡ old.ended)
-        × HasOpened (calls B.Blocks B.OnDisk B.has_read B.has_written B.lasts B.writes O.Opener) old.node old.ended };
+        × HasOpened (calls B.Blocks B.OnDisk B.has_read B.has_written B.lasts B.writes B.is_lost O.Opener) old.node old.ended };
 
     ghost opens_failed = { λ o. min o.failed last_count };
 

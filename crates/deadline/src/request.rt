@@ -53,7 +53,7 @@ impl<B: FileDevice, O: Opener<B>> Model for Request<B, O> {
     } };
 
     ghost invariant = { λ e. e.is_done ≡ true
-        → HasAnswered (calls B.Blocks B.OnDisk B.has_read B.has_written B.lasts B.writes O.Opener)
+        → HasAnswered (calls B.Blocks B.OnDisk B.has_read B.has_written B.lasts B.writes B.is_lost O.Opener)
         e.disk e.writes e.wanted e.bytes.items };
 }
 
@@ -121,7 +121,7 @@ impl<B: FileDevice, O: Opener<B>> Request<B, O> {
     /// Whether this was wanted of this file, and was done.
     pub(crate) fn has_done(&self, disk: Node, wanted: Wanted) -> bool
         ensures wanted { IsTrue result → self.now.wanted ≡ wanted }
-        ensures answered { IsTrue result → HasAnswered (calls B.Blocks B.OnDisk B.has_read B.has_written B.lasts B.writes O.Opener)
+        ensures answered { IsTrue result → HasAnswered (calls B.Blocks B.OnDisk B.has_read B.has_written B.lasts B.writes B.is_lost O.Opener)
             disk self.now.writes wanted self.now.bytes }
     {
         self.is_done && self.wanted == wanted && self.disk.is(disk)
@@ -130,7 +130,7 @@ impl<B: FileDevice, O: Opener<B>> Request<B, O> {
     /// Whether the bytes that it was given were written to this file, from this block on: how many writes have ended then.
     #[tactic(auto, using(crate::proofs::Given::given_written))]
     pub(crate) fn has_written(&self, disk: Node, first: u32) -> Option<u64>
-        ensures { IfSome result (λ writes. HasWritten (calls B.Blocks B.OnDisk B.has_read B.has_written B.lasts B.writes O.Opener)
+        ensures { IfSome result (λ writes. HasWritten (calls B.Blocks B.OnDisk B.has_read B.has_written B.lasts B.writes B.is_lost O.Opener)
             disk first (given_to self.now.wanted self.now.bytes) writes) }
     {
         if self.has_done(disk, Wanted::Write(first)) {
@@ -142,7 +142,7 @@ impl<B: FileDevice, O: Opener<B>> Request<B, O> {
 
     /// Whether this was wanted of this file, and was done with so many bytes.
     pub(crate) fn has_done_all(&self, disk: Node, wanted: Wanted, count: usize) -> bool
-        ensures answered { IsTrue result → HasAnswered (calls B.Blocks B.OnDisk B.has_read B.has_written B.lasts B.writes O.Opener)
+        ensures answered { IsTrue result → HasAnswered (calls B.Blocks B.OnDisk B.has_read B.has_written B.lasts B.writes B.is_lost O.Opener)
             disk self.now.writes wanted self.now.bytes }
         ensures all { IsTrue result → length self.now.bytes ≡ count }
     {
@@ -151,7 +151,7 @@ impl<B: FileDevice, O: Opener<B>> Request<B, O> {
 
     /// Gives the bytes, where a read of this file from this block on was wanted, and was done with so many.
     pub(crate) fn gives(&self, disk: Node, first: u32, bytes: &mut [u8]) -> bool
-        ensures { IsTrue result → HasRead (calls B.Blocks B.OnDisk B.has_read B.has_written B.lasts B.writes O.Opener)
+        ensures { IsTrue result → HasRead (calls B.Blocks B.OnDisk B.has_read B.has_written B.lasts B.writes B.is_lost O.Opener)
             disk first bytes.new }
     {
         if !self.has_done(disk, Wanted::Read(first)) || self.bytes.len() != bytes.len() {
@@ -202,14 +202,14 @@ fn is_run(count: u32, first: u32, length: usize) -> bool
 impl<B: FileDevice, O: Opener<B>> DeviceRunner<B, O> {
     fn read(&mut self, first: u32, bytes: &mut [u8]) -> bool
         ensures { IsTrue result
-            → HasRead (calls B.Blocks B.OnDisk B.has_read B.has_written B.lasts B.writes O.Opener)
+            → HasRead (calls B.Blocks B.OnDisk B.has_read B.has_written B.lasts B.writes B.is_lost O.Opener)
             (B.disk self.old.blocks) first bytes.new }
     {
         is_run(self.blocks.count(), first, bytes.len()) && self.blocks.read_of(first, bytes).is_ok()
     }
 
     fn write(&mut self, first: u32, bytes: &[u8]) -> bool
-        ensures { IsTrue result → HasWritten (calls B.Blocks B.OnDisk B.has_read B.has_written B.lasts B.writes O.Opener)
+        ensures { IsTrue result → HasWritten (calls B.Blocks B.OnDisk B.has_read B.has_written B.lasts B.writes B.is_lost O.Opener)
             (B.disk self.old.blocks) first bytes.now (B.writes self.new.blocks) }
     {
         is_run(self.blocks.count(), first, bytes.len())
@@ -219,7 +219,7 @@ impl<B: FileDevice, O: Opener<B>> DeviceRunner<B, O> {
     // Where fewer writes have ended than are to last, nothing is flushed.
     fn flush(&mut self, writes: u64) -> bool
         ensures { IsTrue result
-            → HasFlushed (calls B.Blocks B.OnDisk B.has_read B.has_written B.lasts B.writes O.Opener) (B.disk self.old.blocks) writes }
+            → HasFlushed (calls B.Blocks B.OnDisk B.has_read B.has_written B.lasts B.writes B.is_lost O.Opener) (B.disk self.old.blocks) writes }
     {
         if self.blocks.ended_writes() < writes {
             return false;
@@ -232,14 +232,14 @@ impl<B: FileDevice, O: Opener<B>> DeviceRunner<B, O> {
 
     fn open(&mut self, writes: u64) -> bool
         ensures { IsTrue result
-            → HasOpened (calls B.Blocks B.OnDisk B.has_read B.has_written B.lasts B.writes O.Opener) (B.disk self.old.blocks) writes }
+            → HasOpened (calls B.Blocks B.OnDisk B.has_read B.has_written B.lasts B.writes B.is_lost O.Opener) (B.disk self.old.blocks) writes }
     {
         writes <= self.blocks.ended_writes() && self.opener.open(&mut self.blocks).is_ok()
     }
 
     // Does what is wanted: whether it went well.
     fn does(&mut self, wanted: Wanted, bytes: &mut Vec<u8>) -> bool
-        ensures answered { IsTrue result → HasAnswered (calls B.Blocks B.OnDisk B.has_read B.has_written B.lasts B.writes O.Opener)
+        ensures answered { IsTrue result → HasAnswered (calls B.Blocks B.OnDisk B.has_read B.has_written B.lasts B.writes B.is_lost O.Opener)
             (B.disk self.old.blocks) (B.writes self.new.blocks) wanted bytes.new.items }
         ensures given { given_to wanted bytes.new.items ≡ given_to wanted bytes.old.items }
     {

@@ -445,7 +445,7 @@ impl<F: BackingFile> Blocks for FileBlocks<F> {
         ensures failed_reads { self.new.tally.failed_reads ≡ self.old.tally.failed_reads }
         ensures failed_writes { Counts (min self.old.tally.failed_writes last_count) (min self.new.tally.failed_writes last_count)
             result }
-        ensures lost { self.old.tally.is_lost ≡ true → IsErr result }
+        ensures lost { OnOk result (self.old.tally.is_lost ≡ false) }
         ensures loses { OnErr result (self.new.tally.is_lost ≡ true) }
         ensures written { self.new.writes.count ≡ self.old.writes.count }
         ensures lasts { OnOk result (IsSettled (F.lasts (F.node self.old.file)) self.old.writes.count) }

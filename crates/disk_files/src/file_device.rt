@@ -1,5 +1,5 @@
 //! A device over a file that says which calls were made of it.
-ghost use Rattle.std.specs.Prelude.{◌≡◌, ◌+◌, ◌*◌, ◌/◌, List, ℕ, length, min, IsTrue, OnOk};
+ghost use Rattle.std.specs.Prelude.{◌≡◌, ◌+◌, ◌*◌, ◌/◌, false, List, ℕ, length, min, IsTrue, OnOk};
 ghost use Rattle.block_file.specs.declared.blocks.TheConstants.{BLOCK_LENGTH};
 ghost use Rattle.block_file.specs.Cut.{run_of, IsRun};
 ghost use Rattle.block_file.specs.Disk.{written, range_bytes, Only};
@@ -14,6 +14,7 @@ use disk_preparer::{Node, OnDisk};
 /// A device over a file (`disk`). Its calls say which calls were made of that file, in the words of whoever makes them: so one that keeps
 /// a device which it does not know can pass them on.
 pub trait FileDevice: Blocks + OnDisk {
+    ghost use Rattle.std.specs.Prelude.{Bool};
     ghost use Rattle.disk_preparer.specs.declared.Node.{Node};
 
     /// These bytes were read from an offset of a file on.
@@ -27,6 +28,9 @@ pub trait FileDevice: Blocks + OnDisk {
 
     /// How many writes of the device have ended, well or not.
     ghost writes: { Self → ℕ };
+
+    /// A flush of the device has failed, so each later one does.
+    ghost is_lost: { Self → Bool };
 
     /// Which file it is over.
     fn disk(&self) -> Node
@@ -54,6 +58,7 @@ pub trait FileDevice: Blocks + OnDisk {
     /// Makes what was written last, as `flush`: a flush of the file ended well that began behind each of these writes.
     fn flush_of(&mut self) -> Result<(), DeviceFailed>
         ensures lasts { OnOk result (IsSettled (lasts (Self.disk self.old)) (writes self.old)) }
+        ensures sound { OnOk result (is_lost self.old ≡ false) }
         ensures durable { IsTrue Self.claims → OnOk result (Only (Self.contents self.old) (Self.may_hold self.new)) };
 }
 
@@ -65,6 +70,8 @@ impl<F: BackingFile> FileDevice for FileBlocks<F> {
     ghost lasts = { F.lasts };
 
     ghost writes = { λ d. d.writes.count };
+
+    ghost is_lost = { λ d. d.tally.is_lost };
 
     fn disk(&self) -> Node {
         self.node()

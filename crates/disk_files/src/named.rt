@@ -188,6 +188,7 @@ impl<R: Files<File = File> + Drop> Blocks for NamedBlocks<R> {
             (writes_failed_with self.new.unnamed self.new.blocks.tally) result }
         ensures written { self.new.blocks.writes.count ≡ self.old.blocks.writes.count }
         ensures lasts { OnOk result (IsSettled (lasts self.old.node) self.old.blocks.writes.count) }
+        ensures lost { OnOk result (self.old.blocks.tally.is_lost ≡ false) }
     {
         match self.blocks.flush() {
             Ok(()) if !self.is_named() => self.refuse(),
@@ -204,6 +205,8 @@ impl<R: Files<File = File> + Drop> FileDevice for NamedBlocks<R> {
     ghost lasts = { lasts };
 
     ghost writes = { λ d. d.blocks.writes.count };
+
+    ghost is_lost = { λ d. d.blocks.tally.is_lost };
 
     fn disk(&self) -> Node {
         self.node()

@@ -152,6 +152,8 @@ impl<B: Blocks> FileDevice for Seeing<B> {
 
     ghost writes = { λ d. last_count };
 
+    ghost is_lost = { λ d. false };
+
     fn disk(&self) -> Node {
         NO_FILE
     }

@@ -92,6 +92,8 @@ impl<B: Blocks, R: Wait + Drop> FileDevice for HeldBlocks<B, R> {
 
     ghost writes = { λ d. last_count };
 
+    ghost is_lost = { λ d. false };
+
     fn disk(&self) -> Node {
         NO_FILE
     }

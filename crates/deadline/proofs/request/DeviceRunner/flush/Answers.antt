@@ -9,6 +9,7 @@ returns-in-Ok g c =
       before = device;
       after = c.flush_of.new.self;
       over = refl;
+      sound = c.in-Ok.ensures.sound;
       settled = settled_with_fewer _ _ _ (search rules) c.in-Ok.ensures.lasts;
       lasts = c.in-Ok.ensures.durable;
     }
