@@ -1,7 +1,7 @@
 //! Devices and openers that fail, what is then seen through both controllers, and what an array finds that is started again at the same
 //! ports.
+use crate::ends::done;
 use crate::restart::{removed, zeros};
-use crate::serving::{Machine, Story};
 use beside_disk::open_registrations;
 use disk_files::{FileBlocks, SystemFile};
 use std::alloc::Global;
@@ -9,6 +9,7 @@ use std::fs::File;
 use std::process::Abort;
 use std::rt::Files;
 use std::test::*;
+use test_machines::{Machine, Story};
 
 // Stories, each with its name, and behind that what fails. A script stands before the restart, and one behind it.
 fn stories() -> &'static str {
@@ -106,7 +107,10 @@ fn a_restart_and_a_write_an_open_and_a_save_that_fail(rt: HostRuntime) {
             fault: fault.trim(),
             scripts,
         };
-        Machine::of(&rt).run_twice(&story, first, first_file, blocks, file);
+        done(
+            &rt,
+            Machine::of(&rt).run_twice(&story, first, first_file, blocks, file),
+        );
         removed(&rt, alloc, path);
     }
 }

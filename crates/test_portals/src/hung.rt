@@ -1,7 +1,7 @@
 //! Devices that hang, whose calls have a deadline.
 ghost use Rattle.std.specs.Prelude.{◌≤◌, IfOk, length};
 
-use crate::serving::{Machine, Script};
+use crate::ends::done;
 use block_file::{KeepOpener, MemBlocks};
 use deadline::{Deadlined, DeadlinedOpener};
 use disk_preparer::Node;
@@ -13,6 +13,7 @@ use std::sync::{Arc, Wait};
 use std::test::*;
 use std::thread::Threads;
 use std::time::{Clock, Duration};
+use test_machines::{Machine, Script};
 use test_memory::{HeldBlocks, Latch, new_unit};
 use timed_calls::Watch;
 use unit_history::NewUnit;
@@ -98,8 +99,13 @@ disk open
 #[test]
 fn a_device_that_hangs_has_failed(rt: HostRuntime) {
     let alloc = rt.alloc();
+    let machine = Machine::of(&rt);
     let script = Script::new("a device that hangs has failed", script());
     let disk = Arc::new(alloc, Latch::open(rt.clone().expect(&rt, "memory"))).expect(&rt, "memory");
-    let units = script.at(&rt).must(both(&rt, alloc, &disk));
-    let _ended = Machine::of(&rt).perform::<Brand, _, _, _>(units, &disk, &script);
+    let begun = done(&rt, machine.begin(&script));
+    let units = done(&rt, both(&rt, alloc, &disk));
+    let _ended = done(
+        &rt,
+        machine.perform::<Brand, _, _, _>(begun, units, &disk, &script),
+    );
 }

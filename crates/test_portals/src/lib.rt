@@ -3,8 +3,6 @@
 #![tactic(auto)]
 
 #[cfg(test)]
-mod at;
-#[cfg(test)]
 mod clients;
 #[cfg(test)]
 mod discovery;
@@ -35,11 +33,7 @@ mod restart;
 #[cfg(test)]
 mod scripts;
 #[cfg(test)]
-mod serving;
-#[cfg(test)]
 mod silence;
-#[cfg(test)]
-mod stage;
 #[cfg(test)]
 mod streams;
 #[cfg(test)]

@@ -1,6 +1,5 @@
 //! Why sessions end, as the log tells it.
-use crate::ends::must;
-use crate::serving::{Machine, Script};
+use crate::ends::{done, must};
 use event_log::{Log, Page, close, start};
 use std::alloc::Global;
 use std::fs::{self, File, OpenFile};
@@ -9,6 +8,7 @@ use std::rt::Files;
 use std::time::{Clock, Duration};
 use std::{io, thread};
 use test_connections::lines_of;
+use test_machines::{Machine, Script};
 
 /// Where the lines are written.
 const PATH: &str = "told";
@@ -156,7 +156,7 @@ fn why_sessions_end_is_told(rt: HostRuntime) {
         rt: rt.clone().expect(&rt, "memory"),
     };
     start::<HostRuntime, LogFile<HostRuntime>>(&rt, alloc, &log, page).expect(&rt, "a thread");
-    Machine::told(&rt, &log).run(&Script::of(script()));
+    done(&rt, Machine::told(&rt, &log).run(&Script::of(script())));
     are_told(&rt, alloc, wanted());
     close(&rt, &log);
     fs::remove_file(&rt, PATH).expect(&rt, "lines");

@@ -1,12 +1,13 @@
 //! The scripts of an array of units in memory, and their tests. A table is one text, with an empty line between two scripts, of each of
 //! which the first line is the name.
-use crate::serving::{Machine, Script};
+use crate::ends::done;
 use crate::{
     clients, discovery, down, fencing, hanging, late, lives, logins, medium, silence, streams,
     wanting, worked,
 };
 use std::net::Ipv4Addr;
 use std::test::*;
+use test_machines::{Machine, Script};
 
 /// Bytes that go out whole.
 const WHOLE: usize = usize::MAX;
@@ -20,7 +21,7 @@ fn sessions_and_controllers(rt: HostRuntime) {
         down::scripts(),
         wanting::scripts(),
     ] {
-        Machine::of(&rt).run_all(*table, WHOLE);
+        done(&rt, Machine::of(&rt).run_all(*table, WHOLE));
     }
 }
 
@@ -33,29 +34,30 @@ fn logins_blocks_and_bytes(rt: HostRuntime) {
         medium::scripts(),
         streams::scripts(),
     ] {
-        Machine::of(&rt).run_all(*table, WHOLE);
+        done(&rt, Machine::of(&rt).run_all(*table, WHOLE));
     }
     let mut anywhere = Script::of(discovery::scripts());
     anywhere.host = Ipv4Addr::UNSPECIFIED;
-    Machine::of(&rt).run(&anywhere);
+    done(&rt, Machine::of(&rt).run(&anywhere));
 }
 
 #[test]
 fn worked_examples(rt: HostRuntime) {
-    Machine::of(&rt).run_all(worked::scripts(), WHOLE);
+    done(&rt, Machine::of(&rt).run_all(worked::scripts(), WHOLE));
 }
 
 // In pieces, too, that are one byte shorter than a header segment, and in single bytes.
 #[test]
 fn whole_lives_and_what_hosts_in_use_send(rt: HostRuntime) {
     for piece in &[WHOLE, 47, 1] {
-        Machine::of(&rt).run_all(lives::scripts(), *piece);
-        Machine::of(&rt).run_all(clients::scripts(), *piece);
+        done(&rt, Machine::of(&rt).run_all(lives::scripts(), *piece));
+        done(&rt, Machine::of(&rt).run_all(clients::scripts(), *piece));
     }
 }
 
 // An accept fails where no connection waits.
 #[test]
 fn hosts_that_are_silent_and_portals_whose_accepts_fail(rt: HostRuntime) {
-    Machine::of(&rt).run(&Script::of(silence::script()));
+    let silent = Script::of(silence::script());
+    done(&rt, Machine::of(&rt).run(&silent));
 }

@@ -1,46 +1,44 @@
 //! What hosts do at an array, and are answered. A script has a line for each PDU: `> PDU` is sent, and `< PDU` comes.
 //! `test_connections` says how a PDU is spelled.
-use crate::ends::must;
 use crate::site::{PORTALS, Site};
 use std::alloc::Global;
 use std::net::{Net, SocketAddrV4, TcpListener, TcpStream};
-use std::process::Abort;
 use std::test::Fail;
 use test_connections::{Host, host_texts, is_text, lines_of, pdu_of};
+use test_wants::{want, want_at};
 
 // Sends what a line spells, or compares it with what comes.
-fn obey<R: Abort>(rt: &R, alloc: Global, host: &mut Host, line: &str) -> Result<(), Fail> {
+fn obey(alloc: Global, host: &mut Host, line: &str) -> Result<(), Fail> {
     let (verb, spelling) = line.split_once(' ').ok_or("a line")?;
     let mut pdu = pdu_of(alloc, host_texts(), spelling)?;
     if verb == ">" {
         return host.send(pdu.as_mut_slice());
     }
-    must(rt, verb == "<", line, &"no verb");
+    want(verb == "<", "a verb")?;
     let came = host.receive(alloc)?;
     let is_answer = host.is_answer(came.as_slice(), pdu.as_mut_slice());
-    must(rt, is_answer, line, &came);
-    Ok(())
+    want_at(is_answer, line, &came)
 }
 
 /// A host does what the lines of a script say.
-pub fn perform<R: Abort>(rt: &R, alloc: Global, host: &mut Host, script: &str) -> Result<(), Fail> {
+pub fn perform(alloc: Global, host: &mut Host, script: &str) -> Result<(), Fail> {
     let lines = lines_of(alloc, script)?;
-    must(rt, !lines.is_empty(), script, &"a script has lines");
+    want(!lines.is_empty(), "a script has lines")?;
     for line in &lines {
-        obey(rt, alloc, host, line)?;
+        obey(alloc, host, line)?;
     }
     Ok(())
 }
 
 /// A host connects to a portal, and does what the lines of a script say.
-pub fn come<R: Abort + Net<Listener = TcpListener, Stream = TcpStream>>(
+pub fn come<R: Net<Listener = TcpListener, Stream = TcpStream>>(
     rt: &R,
     alloc: Global,
     portal: SocketAddrV4,
     script: &str,
 ) -> Result<Host, Fail> {
     let mut host = Host::connect(rt, portal)?;
-    perform(rt, alloc, &mut host, script)?;
+    perform(alloc, &mut host, script)?;
     Ok(host)
 }
 
@@ -65,7 +63,7 @@ fn told(alloc: Global, site: &Site<'_>) -> Result<String, Fail> {
 }
 
 /// An initiator finds all portals, each with its group, by the last of controller 2.
-pub fn finds<R: Abort + Net<Listener = TcpListener, Stream = TcpStream>>(
+pub fn finds<R: Net<Listener = TcpListener, Stream = TcpStream>>(
     rt: &R,
     alloc: Global,
     site: &Site<'_>,
@@ -74,6 +72,5 @@ pub fn finds<R: Abort + Net<Listener = TcpListener, Stream = TcpStream>>(
     let wanted = told(alloc, site)?;
     let came = host.receive(alloc)?;
     let is_told = is_text(came.as_slice(), wanted.as_bytes());
-    must(rt, is_told, wanted.as_str(), &came);
-    Ok(())
+    want_at(is_told, "what is told", &came)
 }

@@ -1,6 +1,5 @@
 //! The console of an array whose hosts come between two of its lines.
 use crate::administrators::find;
-use crate::ends::must;
 use crate::hosts::{come, finds};
 use crate::site::{SIZE, Site, copy};
 use disk_files::{DiskFault, open_disk};
@@ -8,10 +7,11 @@ use std::alloc::Global;
 use std::fs::File;
 use std::io::{self, ErrorKind, Read};
 use std::net::{Net, SocketAddrV4, TcpListener, TcpStream};
-use std::process::{Abort, Termination};
+use std::process::Termination;
 use std::rt::Files;
 use std::test::Fail;
 use test_connections::{Host, bytes_of};
+use test_wants::want_at;
 
 // The name of the host that registers.
 const REGISTRANT: &[u8] = b"iqn.2000-01.test:a";
@@ -81,7 +81,7 @@ pub fn is_refused<R: Files<File = File> + Clone + Drop>(
 
 // In the file of a unit lie these blocks 5 and 6, its registration file names the host that registers, or not, and no other server
 // may have them.
-fn compare_unit<R: Abort + Files<File = File> + Clone + Drop>(
+fn compare_unit<R: Files<File = File> + Clone + Drop>(
     rt: &R,
     alloc: Global,
     file: &str,
@@ -89,16 +89,15 @@ fn compare_unit<R: Abort + Files<File = File> + Clone + Drop>(
     is_registered: bool,
 ) -> Result<(), Fail> {
     let [five, six] = blocks;
-    must(rt, lies(rt, alloc, file, 5, five)?, file, &five);
-    must(rt, lies(rt, alloc, file, 6, six)?, file, &six);
+    want_at(lies(rt, alloc, file, 5, five)?, file, &five)?;
+    want_at(lies(rt, alloc, file, 6, six)?, file, &six)?;
     let is_named = names_registrant(rt, alloc, file)?;
-    must(rt, is_named == is_registered, file, &is_named);
-    must(rt, is_refused(rt, alloc, file)?, file, &"not refused");
-    Ok(())
+    want_at(is_named == is_registered, file, &is_named)?;
+    want_at(is_refused(rt, alloc, file)?, file, &"not refused")
 }
 
 // What the hosts wrote lies in the files, each unit's in its own, and the registration beside unit 1.
-fn compare<R: Abort + Files<File = File> + Clone + Drop>(
+fn compare<R: Files<File = File> + Clone + Drop>(
     rt: &R,
     alloc: Global,
     site: &Site<'_>,
@@ -114,7 +113,7 @@ fn portal_at(site: &Site<'_>, line: &str) -> Option<SocketAddrV4> {
 }
 
 // The hosts come.
-fn come_all<R: Abort + Net<Listener = TcpListener, Stream = TcpStream>>(
+fn come_all<R: Net<Listener = TcpListener, Stream = TcpStream>>(
     rt: &R,
     alloc: Global,
     visited: &Visited<'_>,
@@ -129,9 +128,12 @@ fn come_all<R: Abort + Net<Listener = TcpListener, Stream = TcpStream>>(
 }
 
 // The hosts come, and what they leave is looked at. Then its files are copied, where they are to be.
-fn receive<
-    R: Abort + Net<Listener = TcpListener, Stream = TcpStream> + Files<File = File> + Clone + Drop,
->(rt: &R, alloc: Global, visited: &Visited<'_>, hosts: &mut Vec<Host>) -> Result<(), Fail> {
+fn receive<R: Net<Listener = TcpListener, Stream = TcpStream> + Files<File = File> + Clone + Drop>(
+    rt: &R,
+    alloc: Global,
+    visited: &Visited<'_>,
+    hosts: &mut Vec<Host>,
+) -> Result<(), Fail> {
     finds(rt, alloc, &visited.site)?;
     come_all(rt, alloc, visited, hosts)?;
     compare(rt, alloc, &visited.site)?;
@@ -145,12 +147,7 @@ fn receive<
 
 impl<
     'a,
-    R: Abort
-        + Eprint
-        + Net<Listener = TcpListener, Stream = TcpStream>
-        + Files<File = File>
-        + Clone
-        + Drop,
+    R: Eprint + Net<Listener = TcpListener, Stream = TcpStream> + Files<File = File> + Clone + Drop,
 > Read for Lines<'a, R> {
     fn read(&mut self, buf: &mut [u8]) -> io::Result<usize> {
         self.reads = self.reads.saturating_add(1);

@@ -1,6 +1,6 @@
 //! The lines of the console, over units that count.
 use crate::ends::must;
-use array::{Operations, console};
+use array_administration::{Operations, console};
 use command_line::Fault;
 use scsi_types::Group;
 use status::Row;

@@ -1,18 +1,17 @@
 //! What administrators find at the window and at the control socket, while hosts are logged in.
-use crate::ends::must;
 use crate::site::Site;
-use array::{Administration, bind_window, give_to_owner};
+use array_administration::{Administration, bind_window};
 use event_log::Log;
 use std::alloc::Global;
 use std::fs::{self, File};
-use std::io::{self, Read, Write};
+use std::io::{self, Write};
 use std::net::{Net, Shutdown, SocketAddr, SocketAddrV4, TcpListener, TcpStream};
 use std::os::unix::fs::PermissionsExt;
-use std::os::unix::net::{UnixListener, UnixStream};
-use std::process::{self, Abort};
+use std::os::unix::net::UnixStream;
 use std::rt::Files;
-use std::test::*;
+use std::test::Fail;
 use std::time::{Clock, Duration};
+use test_wants::want_at;
 
 /// So many seconds an answer may take.
 const PATIENCE: u64 = 20;
@@ -26,7 +25,7 @@ const SILENT: u32 = 16;
 const OWNER_ALONE: u32 = 0o600;
 
 /// By what administrators are to reach the array of a site: its window is at no other address than the one that was asked for.
-pub fn administration<'a, R: Abort + Net<Listener = TcpListener, Stream = TcpStream> + Clock>(
+pub fn administration<'a, R: Net<Listener = TcpListener, Stream = TcpStream> + Clock>(
     rt: &R,
     log: &Log,
     at: SocketAddrV4,
@@ -36,7 +35,7 @@ pub fn administration<'a, R: Abort + Net<Listener = TcpListener, Stream = TcpStr
         return Err("a window".into());
     };
     let bound = listener.local_addr()?;
-    must(rt, bound == SocketAddr::V4(at), "the window", &bound);
+    want_at(bound == SocketAddr::V4(at), "the window", &bound)?;
     Ok(Administration {
         version: "0.0.0",
         http: Some(listener),
@@ -80,7 +79,7 @@ const ANSWERS: [(&str, &str); 6] = [
 ];
 
 // The line that ends session 258 ends no other one, also none whose number has the same last byte.
-fn no_other_session_is_ended<R: Abort + Net>(
+fn no_other_session_is_ended<R: Net>(
     rt: &R,
     alloc: Global,
     control: &str,
@@ -88,21 +87,20 @@ fn no_other_session_is_ended<R: Abort + Net>(
 ) -> Result<(), Fail> {
     for (line, wanted) in &ANSWERS {
         let answer = told(rt, alloc, control, line)?;
-        must(rt, answer.as_str() == *wanted, line, &answer);
+        want_at(answer.as_str() == *wanted, line, &answer)?;
     }
     let lines = told(rt, alloc, control, "sessions\n")?;
     let count = lines
         .lines()
         .filter(|line| line.contains(" type normal "))
         .count();
-    must(rt, count == sessions, "sessions", &lines);
+    want_at(count == sessions, "sessions", &lines)?;
     let has_second = lines.lines().any(|line| line.starts_with("session 2 "));
-    must(rt, has_second, "session 2", &lines);
-    Ok(())
+    want_at(has_second, "session 2", &lines)
 }
 
 // The window answers however many have asked before, and while as many as it serves say nothing.
-fn nobody_is_shut_out<R: Abort + Net<Listener = TcpListener, Stream = TcpStream>>(
+fn nobody_is_shut_out<R: Net<Listener = TcpListener, Stream = TcpStream>>(
     rt: &R,
     alloc: Global,
     at: SocketAddrV4,
@@ -110,7 +108,7 @@ fn nobody_is_shut_out<R: Abort + Net<Listener = TcpListener, Stream = TcpStream>
     for _ in 0..REQUESTS {
         let answer = got(rt, alloc, at, "/health")?;
         let is_well = answer.as_str().starts_with("HTTP/1.1 200 ");
-        must(rt, is_well, "/health", &answer);
+        want_at(is_well, "/health", &answer)?;
     }
     let mut silent = Vec::new(alloc);
     for _ in 0..SILENT {
@@ -120,55 +118,24 @@ fn nobody_is_shut_out<R: Abort + Net<Listener = TcpListener, Stream = TcpStream>
     let is_there = answer
         .as_str()
         .contains("arrayd_unit_own_flushes_total{unit=\"1\",} 0\n");
-    must(rt, is_there, "/metrics", &answer.len());
-    Ok(())
+    want_at(is_there, "/metrics", &answer.len())
 }
 
 /// What they find at a site with so many sessions. Nobody but its owner may connect to the control socket.
-pub fn find<R: Abort + Net<Listener = TcpListener, Stream = TcpStream> + Files<File = File>>(
+pub fn find<R: Net<Listener = TcpListener, Stream = TcpStream> + Files<File = File>>(
     rt: &R,
     alloc: Global,
     site: &Site<'_>,
     sessions: usize,
 ) -> Result<(), Fail> {
     let mode = fs::metadata(rt, site.control)?.permissions().mode() & 0o777;
-    must(rt, mode == OWNER_ALONE, "the control socket", &mode);
+    want_at(mode == OWNER_ALONE, "the control socket", &mode)?;
     no_other_session_is_ended(rt, alloc, site.control, sessions)?;
     nobody_is_shut_out(rt, alloc, site.window())?;
     let answer = got(rt, alloc, site.window(), "/recent")?;
     let first = "{\"step_seconds\":10,\"points\":[{\"at\":";
-    must(rt, answer.as_str().contains(first), "/recent", &answer);
+    want_at(answer.as_str().contains(first), "/recent", &answer)?;
     // How much was read by then depends on the moment.
-    must(
-        rt,
-        answer.as_str().contains("\"units\":[{\"reads\":"),
-        "/recent",
-        &answer,
-    );
-    Ok(())
-}
-
-// Who came before is at the end of what is said; who comes later is let in.
-#[test]
-fn strangers_are_turned_away(rt: HostRuntime) -> Result<(), Fail> {
-    let path = format!(in rt.alloc(); "arrayd_{}_strangers", process::id(rt.process()))?;
-    let path = path.as_str();
-    let _ = fs::remove_file(&rt, path);
-    let listener = UnixListener::bind(&rt, path)?;
-    let before = [
-        UnixStream::connect(&rt, path)?,
-        UnixStream::connect(&rt, path)?,
-    ];
-    give_to_owner(&rt, path, &listener)?;
-    let mode = fs::metadata(&rt, path)?.permissions().mode() & 0o777;
-    must(&rt, mode == OWNER_ALONE, "its mode", &mode);
-    for stranger in &before {
-        let mut stranger = stranger;
-        let end = stranger.read(&mut [0; 1]);
-        must(&rt, matches!(end, Ok(0)), "a stranger", &end.is_ok());
-    }
-    let _owner = UnixStream::connect(&rt, path)?;
-    must(&rt, listener.accept().is_ok(), "its owner", &());
-    fs::remove_file(&rt, path)?;
-    Ok(())
+    let units = "\"units\":[{\"reads\":";
+    want_at(answer.as_str().contains(units), "/recent", &answer)
 }

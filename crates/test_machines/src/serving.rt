@@ -2,26 +2,25 @@
 ghost use Rattle.std.specs.Prelude.{◌≤◌, length};
 ghost use Rattle.unit_history.specs.Naming.{IsNamed};
 
-use crate::at::At;
-use crate::stage::Stage;
 use array_units::Units;
 use block_file::{Blocks, FusedBlocks, FusedOpener, KeepOpener, Opener};
 use event_log::Log;
 use live_sessions::TargetDevice;
-use portal::{Logins, Server, SmallStacks, Stop, listen, start_lanes};
+use portal::{Logins, Server, SmallStacks, Socket, Stop, listen, start_lanes};
 use scsi_types::Group;
 use session_units::Controllers;
 use std::alloc::Global;
 use std::io::Eprint;
 use std::marker::Brand;
 use std::net::{Ipv4Addr, Net, SocketAddr, SocketAddrV4, TcpListener, TcpStream};
-use std::process::Abort;
 use std::sync::{Arc, Mutex, Wait};
+use std::test::Fail;
 use std::thread::{JoinHandle, Threads};
 use std::time::Clock;
 use test_connections::Host;
 use test_memory::Latch;
 use test_scenes::{Behind, Doors, Faults, NoRoom, Portals, Scene, in_memory, opened};
+use test_stages::Stage;
 use unit_history::{NewUnit, Opened};
 use unit_sequence::ArrayNaming;
 
@@ -77,15 +76,6 @@ impl<'a> Script<'a> {
             text,
         }
     }
-
-    /// Where it is before its first line.
-    pub fn at<R>(&self, rt: &'a R) -> At<'a, R> {
-        At {
-            rt,
-            script: self.name,
-            line: "",
-        }
-    }
 }
 
 /// An array that fails so while hosts perform a script, and, started again, does not while they perform another, which stands
@@ -104,17 +94,37 @@ struct Served {
     worker: JoinHandle<()>,
 }
 
-// A portal at this port, or at one that is free.
-fn bind<R: Abort + Net<Listener = TcpListener, Stream = TcpStream>>(
+/// A portal that listens, and where.
+#[derive(Drop)]
+struct Listening {
+    listener: TcpListener,
+    at: SocketAddrV4,
+}
+
+// A portal at this port, or at one that is free. It may be hasty.
+fn bind<R: Net<Listener = TcpListener, Stream = TcpStream>>(
     rt: &R,
     host: Ipv4Addr,
     port: u16,
-) -> (TcpListener, SocketAddrV4) {
-    let listener = TcpListener::bind(rt, (host, port)).expect(rt, "a portal");
-    match listener.local_addr().expect(rt, "an address") {
-        SocketAddr::V4(address) => (listener, address),
-        SocketAddr::V6(_) => panic!(*rt; "an address"),
-    }
+    is_hasty: bool,
+) -> Result<Listening, Fail> {
+    let listener = TcpListener::bind(rt, (host, port))?;
+    listener.set_nonblocking(is_hasty)?;
+    let SocketAddr::V4(at) = listener.local_addr()? else {
+        return Err("an address".into());
+    };
+    Ok(Listening { listener, at })
+}
+
+// Both portals of a script.
+fn bind_both<R: Net<Listener = TcpListener, Stream = TcpStream>>(
+    rt: &R,
+    script: &Script<'_>,
+) -> Result<(Listening, Listening), Fail> {
+    let [first, second] = script.ports;
+    let first = bind(rt, script.host, first, script.is_hasty)?;
+    let second = bind(rt, script.host, second, script.is_hasty)?;
+    Ok((first, second))
 }
 
 // Serves a portal of a group, whose controller has its lanes.
@@ -123,7 +133,7 @@ fn serve<
     B: Blocks + Send + Sync + 'static,
     F: Blocks + Send + Sync + 'static,
     O: Opener<B> + Send + Sync + 'static,
-    R: Threads + Wait + Clock + Abort + Clone + Drop + Send + Sync + 'static,
+    R: Threads + Wait + Clock + Clone + Drop + Send + Sync + 'static,
 >(
     rt: &R,
     alloc: Global,
@@ -131,22 +141,24 @@ fn serve<
     server: &Arc<Server<Controllers<B, F, O, N>, Doors<R>>, Global>,
     group: Group,
     stacks: NoRoom,
-) -> Served {
+) -> Result<Served, Fail> {
     let _lanes = start_lanes::<N, B, F, O, Doors<R>, R, SmallStacks>(
         rt,
         server,
         group,
         &mut SmallStacks,
-    ).expect(rt, "lanes");
-    let stop = Stop::of(&listener).expect(rt, "a stop");
-    let worker = listen(rt, alloc, listener, server, group, stacks).expect(rt, "a worker");
-    Served { stop, worker }
+    )?;
+    let stop = Stop::of(&listener)?;
+    let worker = listen(rt, alloc, listener, server, group, stacks)?;
+    Ok(Served { stop, worker })
 }
 
 // Ends the accept loop of a portal.
-fn end<R: Threads + Abort>(rt: &R, served: Served) {
-    served.stop.stop().expect(rt, "a stop");
-    served.worker.join(rt);
+fn end<R: Threads>(rt: &R, served: Served) -> Result<(), Fail> {
+    let Served { stop, worker } = served;
+    stop.stop()?;
+    worker.join(rt);
+    Ok(())
 }
 
 // Where the hosts find a portal.
@@ -154,52 +166,89 @@ fn found_at(portal: SocketAddrV4) -> SocketAddrV4 {
     SocketAddrV4::new(Ipv4Addr::new(127, 0, 0, 1), portal.port())
 }
 
-// Hosts perform a script: these, whose sessions may still be open.
-fn performed<R: Abort + Eprint, S: Scene>(
+// Hosts perform a script: these, whose sessions may still be open. Where a line fails, it is told which.
+fn performed<R: Eprint, S: Scene>(
     rt: &R,
     alloc: Global,
     scene: &S,
     script: &Script<'_>,
-) -> Vec<Host> {
-    let mut stage = Stage::new(rt, alloc, scene, script.name, script.piece);
-    stage.perform(script.text);
-    stage.into_hosts()
+) -> Result<Vec<Host>, Fail> {
+    let mut stage = Stage::new(alloc, scene, script.piece)?;
+    let end = stage.perform(script.text);
+    if end.is_err() {
+        let (name, line) = (script.name, stage.line());
+        let _ = rt.eprintln(format_args!("{name}: {line}"));
+    }
+    end?;
+    Ok(stage.into_hosts())
 }
 
-// What serves these units, behind a gate at which nothing hangs yet, at these portals.
+/// What a target tells of itself, and the logins that it counts.
+#[derive(Drop)]
+struct Told {
+    name: Vec<u8>,
+    first: Vec<SocketAddrV4>,
+    second: Vec<SocketAddrV4>,
+    logins: Logins<Socket>,
+}
+
+// That of a target at these portals, where nobody logs in yet.
+fn told_at(alloc: Global, first: SocketAddrV4, second: SocketAddrV4) -> Result<Told, Fail> {
+    Ok(Told {
+        name: Vec::from_slice(alloc, b"iqn.2000-01.test:array")?,
+        first: Vec::from_slice(alloc, &[first])?,
+        second: Vec::from_slice(alloc, &[second])?,
+        logins: Logins::none(alloc)?,
+    })
+}
+
+/// What there is of an array before its units: its portals, what it tells, and its gate, at which nothing hangs yet.
+#[derive(Drop)]
+pub struct Begun<R: Wait + Drop> {
+    first: Listening,
+    second: Listening,
+    told: Told,
+    log: Log,
+    gate: Doors<R>,
+}
+
+// What serves these units behind a gate.
 fn server_of<N: ArrayNaming<Opened>, B: Blocks, F: Blocks, O: Opener<B>, R>(
     rt: &R,
     alloc: Global,
     new: Vec<NewUnit<B, F, O>>,
-    first: SocketAddrV4,
-    second: SocketAddrV4,
+    told: Told,
     log: Log,
-) -> Arc<Server<Controllers<B, F, O, N>, Doors<R>>, Global>
+    gate: Doors<R>,
+) -> Result<Arc<Server<Controllers<B, F, O, N>, Doors<R>>, Global>, Fail>
 where
-    R: Wait + Abort + Clone + Drop,
+    R: Wait + Drop,
     requires named { IsNamed N.book N.table N.opening B.contents new.items }
     requires count { length new.items ≤ 8 }
 {
-    let units = Units::<B, F, O, N>::new(rt, alloc, new).expect(rt, "memory");
-    let controllers = Controllers::new(alloc, units).expect(rt, "memory");
+    let units = Units::<B, F, O, N>::new(rt, alloc, new)?;
+    let controllers = Controllers::new(alloc, units)?;
+    let Told {
+        name,
+        first,
+        second,
+        logins,
+    } = told;
     let server = Server {
-        device: TargetDevice::new(alloc, controllers, gate(rt)),
-        target_name: Vec::from_slice(alloc, b"iqn.2000-01.test:array").expect(rt, "memory"),
-        first: Vec::from_slice(alloc, &[first]).expect(rt, "memory"),
-        second: Vec::from_slice(alloc, &[second]).expect(rt, "memory"),
-        logins: Mutex::new(Logins::none(alloc).expect(rt, "memory")),
+        device: TargetDevice::new(alloc, controllers, gate),
+        target_name: name,
+        first,
+        second,
+        logins: Mutex::new(logins),
         log,
     };
-    Arc::new(alloc, server).expect(rt, "memory")
+    Ok(Arc::new(alloc, server)?)
 }
 
 // A gate that is open.
-fn gate<R: Wait + Abort + Clone + Drop>(rt: &R) -> Doors<R> {
-    Doors::new(
-        rt.clone().expect(rt, "memory"),
-        Latch::open(rt.clone().expect(rt, "memory")),
-        Latch::open(rt.clone().expect(rt, "memory")),
-    )
+fn gate<R: Wait + Clone + Drop>(rt: &R) -> Result<Doors<R>, Fail> {
+    let (commands, flushes) = (Latch::open(rt.clone()?), Latch::open(rt.clone()?));
+    Ok(Doors::new(rt.clone()?, commands, flushes))
 }
 
 // Hosts perform a script before these portals: the hosts.
@@ -208,7 +257,7 @@ fn performed_before<
     B: Blocks,
     F: Blocks,
     O: Opener<B>,
-    R: Wait + Clock + Abort + Eprint + Net<Listener = TcpListener, Stream = TcpStream> + Drop,
+    R: Wait + Clock + Eprint + Net<Listener = TcpListener, Stream = TcpStream> + Drop,
 >(
     rt: &R,
     alloc: Global,
@@ -216,7 +265,7 @@ fn performed_before<
     portals: [SocketAddrV4; 2],
     disk: &Latch<R>,
     script: &Script<'_>,
-) -> Vec<Host> {
+) -> Result<Vec<Host>, Fail> {
     let behind = Behind {
         rt,
         controllers: &server.device.units,
@@ -224,6 +273,52 @@ fn performed_before<
     };
     let scene = Portals::new(rt, portals, &server.device.gate, disk, &behind);
     performed(rt, alloc, &scene, script)
+}
+
+// Both portals are served while hosts perform a script: the ports, and the hosts.
+fn serve_both<
+    N: ArrayNaming<Opened> + Send + Sync + 'static,
+    B: Blocks + Send + Sync + 'static,
+    F: Blocks + Send + Sync + 'static,
+    O: Opener<B> + Send + Sync + 'static,
+    R: Threads
+        + Wait
+        + Clock
+        + Eprint
+        + Net<Listener = TcpListener, Stream = TcpStream>
+        + Clone
+        + Drop
+        + Send
+        + Sync
+        + 'static,
+>(
+    rt: &R,
+    alloc: Global,
+    server: &Arc<Server<Controllers<B, F, O, N>, Doors<R>>, Global>,
+    first: Listening,
+    second: Listening,
+    disk: &Latch<R>,
+    script: &Script<'_>,
+) -> Result<([u16; 2], Vec<Host>), Fail> {
+    let stacks = NoRoom {
+        refused: script.refused,
+    };
+    let ports = [first.at.port(), second.at.port()];
+    let portals = [found_at(first.at), found_at(second.at)];
+    let Listening {
+        listener: first,
+        ..
+    } = first;
+    let Listening {
+        listener: second,
+        ..
+    } = second;
+    let first = serve::<N, B, F, O, R>(rt, alloc, first, server, Group::One, stacks)?;
+    let second = serve::<N, B, F, O, R>(rt, alloc, second, server, Group::Two, stacks)?;
+    let hosts = performed_before(rt, alloc, server, portals, disk, script)?;
+    end(rt, first)?;
+    end(rt, second)?;
+    Ok((ports, hosts))
 }
 
 /// Where arrays are served, and the log that is told of them, where it is on.
@@ -258,7 +353,6 @@ impl<
     R: Threads
         + Wait
         + Clock
-        + Abort
         + Eprint
         + Net<Listener = TcpListener, Stream = TcpStream>
         + Clone
@@ -267,6 +361,19 @@ impl<
         + Sync
         + 'static,
 > Machine<'_, R> {
+    /// Begins an array for a script.
+    pub fn begin(&self, script: &Script<'_>) -> Result<Begun<R>, Fail> {
+        let Machine { rt, alloc, .. } = *self;
+        let (first, second) = bind_both(rt, script)?;
+        Ok(Begun {
+            told: told_at(alloc, first.at, second.at)?,
+            log: self.log()?,
+            gate: gate(rt)?,
+            first,
+            second,
+        })
+    }
+
     /// Serves these units, whose devices may hang at this latch, while hosts perform a script: the ports, and the hosts, whose
     /// sessions may still be open.
     pub fn perform<
@@ -276,59 +383,56 @@ impl<
         O: Opener<B> + Send + Sync + 'static,
     >(
         &self,
+        begun: Begun<R>,
         new: Vec<NewUnit<B, F, O>>,
         disk: &Latch<R>,
         script: &Script<'_>,
-    ) -> ([u16; 2], Vec<Host>)
+    ) -> Result<([u16; 2], Vec<Host>), Fail>
         requires named { IsNamed N.book N.table N.opening B.contents new.items }
         requires count { length new.items ≤ 8 }
     {
         let Machine { rt, alloc, .. } = *self;
-        let (first, first_at) = bind(rt, script.host, script.ports[0]);
-        let (second, second_at) = bind(rt, script.host, script.ports[1]);
-        if script.is_hasty {
-            first.set_nonblocking(true).expect(rt, "a portal");
-            second.set_nonblocking(true).expect(rt, "a portal");
+        let Begun {
+            first,
+            second,
+            told,
+            log,
+            gate,
+        } = begun;
+        let server = server_of::<N, B, F, O, R>(rt, alloc, new, told, log, gate)?;
+        let ended = serve_both::<N, B, F, O, R>(rt, alloc, &server, first, second, disk, script);
+        if ended.is_ok() {
+            server.device.units.close(rt);
         }
-        let server = server_of::<N, B, F, O, R>(rt, alloc, new, first_at, second_at, self.log());
-        let stacks = NoRoom {
-            refused: script.refused,
-        };
-        let first = serve::<N, B, F, O, R>(rt, alloc, first, &server, Group::One, stacks);
-        let second = serve::<N, B, F, O, R>(rt, alloc, second, &server, Group::Two, stacks);
-        let portals = [found_at(first_at), found_at(second_at)];
-        let hosts = performed_before(rt, alloc, &server, portals, disk, script);
-        end(rt, first);
-        end(rt, second);
-        server.device.units.close(rt);
-        ([first_at.port(), second_at.port()], hosts)
+        ended
     }
 
     // Another hand on its log.
-    fn log(&self) -> Log {
-        match self.log {
-            Some(log) => log.share().expect(self.rt, "memory"),
-            None => Log::off(),
-        }
+    fn log(&self) -> Result<Log, Fail> {
+        let Some(log) = self.log else {
+            return Ok(Log::off());
+        };
+        Ok(log.share()?)
     }
 
     /// Hosts perform a script before units in memory.
-    pub fn run(&self, script: &Script<'_>) {
+    pub fn run(&self, script: &Script<'_>) -> Result<(), Fail> {
         let Machine { rt, alloc, .. } = *self;
-        let latch = Latch::open(rt.clone().expect(rt, "memory"));
-        let disk = Arc::new(alloc, latch).expect(rt, "memory");
-        let units = in_memory(alloc, &disk, script.is_alone, script.opens);
-        let units = script.at(rt).must(units);
-        let _ended = self.perform::<Brand, _, _, _>(units, &disk, script);
+        let begun = self.begin(script)?;
+        let disk = Arc::new(alloc, Latch::open(rt.clone()?))?;
+        let units = in_memory(alloc, &disk, script.is_alone, script.opens)?;
+        let _ended = self.perform::<Brand, _, _, _>(begun, units, &disk, script)?;
+        Ok(())
     }
 
     /// Hosts perform each script of a table, and what they send goes out in pieces of so many bytes.
-    pub fn run_all(&self, table: &str, piece: usize) {
+    pub fn run_all(&self, table: &str, piece: usize) -> Result<(), Fail> {
         for part in table.split("\n\n") {
             let mut script = Script::of(part);
             script.piece = piece;
-            self.run(&script);
+            self.run(&script)?;
         }
+        Ok(())
     }
 
     // Serves a unit over devices that fail so while hosts perform a script: the ports, and the hosts, whose sessions may still be open.
@@ -338,14 +442,14 @@ impl<
         file: F,
         faults: Faults,
         script: &Script<'_>,
-    ) -> ([u16; 2], Vec<Host>) {
-        let disk = Latch::open(self.rt.clone().expect(self.rt, "memory"));
+    ) -> Result<([u16; 2], Vec<Host>), Fail> {
+        let begun = self.begin(script)?;
+        let disk = Latch::open(self.rt.clone()?);
         let blocks = FusedBlocks::inside(blocks, faults.passed, faults.landed);
         let file = FusedBlocks::new(file, faults.registration_calls());
         let opener = FusedOpener::new(KeepOpener, faults.opened);
-        let units = opened(self.alloc, blocks, opener, file);
-        let units = script.at(self.rt).must(units);
-        self.perform::<Brand, _, _, _>(units, &disk, script)
+        let units = opened(self.alloc, blocks, opener, file)?;
+        self.perform::<Brand, _, _, _>(begun, units, &disk, script)
     }
 
     /// Runs a story over the first devices, and behind the restart over the others of the same files.
@@ -356,20 +460,17 @@ impl<
         first_file: F,
         blocks: B,
         file: F,
-    ) {
-        let (before, after) = story.scripts.split_once("\n\n").expect(self.rt, story.name);
+    ) -> Result<(), Fail> {
+        let (before, after) = story.scripts.split_once("\n\n").ok_or("a story")?;
         let before = Script::new(story.name, before);
-        let (ports, hosts) = self.serve_failing(
-            first,
-            first_file,
-            Faults::of(story.fault),
-            &before,
-        );
+        let faults = Faults::of(story.fault);
+        let (ports, hosts) = self.serve_failing(first, first_file, faults, &before)?;
         let again = Script {
             ports,
             ..Script::new(story.name, after)
         };
-        let _ended = self.serve_failing(blocks, file, Faults::of(""), &again);
+        let _ended = self.serve_failing(blocks, file, Faults::of(""), &again)?;
         drop(hosts);
+        Ok(())
     }
 }

@@ -3,7 +3,8 @@ ghost use Rattle.std.specs.Prelude.{◌≤◌, length};
 ghost use Rattle.unit_history.specs.Naming.{IsNamed};
 
 use crate::ends::must;
-use array::{Operated, console};
+use array_administration::console;
+use array_operations::Operated;
 use array_units::Units;
 use block_file::{Blocks, FusedBlocks, KeepOpener, MemBlocks, Opener};
 use event_log::Log;
