@@ -7,18 +7,18 @@ use std::mem;
 use std::sync::Mutex;
 use std::sync::atomic::{AtomicUsize, Ordering};
 
-/// Memory of fewer bytes is not kept: to take it anew costs little.
-const LEAST_KEPT: usize = 8192;
-
-/// Nor is memory of more bytes.
+/// Memory of more bytes is not kept.
 const MOST_KEPT: usize = 262144;
 
-/// At so many places memory is kept.
+/// Memory of more bytes is kept apart, so that it serves no READ of fewer.
+const SMALL: usize = 16384;
+
+/// At so many places small memory is kept, and at as many that of more bytes.
 const PLACES: usize = 16;
 
 // Whether memory of so many bytes is kept.
 fn is_kept(bytes: usize) -> bool {
-    LEAST_KEPT <= bytes && bytes <= MOST_KEPT
+    bytes != 0 && bytes <= MOST_KEPT
 }
 
 /// The memory of replies that were sent, for others. The sessions of an array share it, so that none of them holds any while it waits for
@@ -41,7 +41,7 @@ impl Spares {
     /// No memory is kept. There are as many places as there is memory for.
     pub fn none(alloc: Global) -> Spares {
         let mut places = Vec::new(alloc);
-        for _ in 0..PLACES {
+        for _ in 0..PLACES * 2 {
             let _ = places.push(Mutex::new(Vec::new(alloc)));
         }
         Spares {
@@ -55,11 +55,14 @@ impl Spares {
         self.turns.fetch_add(1, Ordering::Relaxed)
     }
 
-    // Puts memory there, and gives what was there; or gives it back where somebody else is at this place.
-    fn exchange(&self, place: usize, bytes: Vec<u8>) -> Vec<u8> {
+    // Puts memory where that for so many bytes is kept, and gives what was there; or gives it back where somebody else is at this place.
+    fn exchange(&self, place: usize, count: usize, bytes: Vec<u8>) -> Vec<u8> {
         if self.places.is_empty() {
             return bytes;
         }
+        let place = place
+            .wrapping_mul(2)
+            .wrapping_add(usize::from(count <= SMALL));
         match self.places[place % self.places.len()].try_lock() {
             Some(mut kept) => mem::replace(&mut *kept, bytes),
             None => bytes,
@@ -68,15 +71,16 @@ impl Spares {
 
     /// Keeps the memory of a reply at this place.
     pub fn keep(&self, place: usize, bytes: Vec<u8>) {
-        if is_kept(bytes.capacity()) {
-            drop(self.exchange(place, bytes));
+        let count = bytes.capacity();
+        if is_kept(count) {
+            drop(self.exchange(place, count, bytes));
         }
     }
 
     // So many bytes, whatever they hold; None where there is no memory for them.
     fn take(&self, place: usize, alloc: Global, count: usize) -> Option<Vec<u8>> {
         if is_kept(count) {
-            let mut kept = self.exchange(place, Vec::new(alloc));
+            let mut kept = self.exchange(place, count, Vec::new(alloc));
             if kept.capacity() >= count {
                 kept.resize(count, 0).ok()?;
                 return Some(kept);
