@@ -101,7 +101,7 @@ impl Trouble {
             ),
             Trouble::FlushesLost => Some(
                 "One flush failed, so what was written since the last good one may be lost. Taking the controller down does not heal \
-                it. Mend the disk, `quit`, start; hosts with a journal replay it.",
+                it. Stop writing, mend the disk, `quit`, start; then unmount on the hosts, check, and mount.",
             ),
             Trouble::CallsFailed => Some(failed_sentence(culprit)),
             Trouble::SavesHang => Some(
