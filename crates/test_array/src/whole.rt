@@ -6,7 +6,7 @@ use std::io::BufReader;
 use std::test::*;
 use std::time::Duration;
 use std::{fs, process};
-use test_visits::{begun, compare_end, console_lines, new_paths, new_scripts, story};
+use test_visits::{begun, compare_end, console_lines, new_paths, new_scripts, sites, story};
 
 /// So many seconds a call of a file may take.
 const PATIENCE: u64 = 20;
@@ -20,7 +20,8 @@ fn units_have_their_files_and_portals_their_groups(rt: HostRuntime) -> Result<()
     let process = process::id(rt.process());
     let paths = new_paths(&rt, alloc, process)?;
     let scripts = new_scripts(alloc)?;
-    for visited in story(&rt, process, &paths, &scripts)? {
+    let (site, left) = sites(&rt, process, &paths)?;
+    for visited in story(site, left, &scripts) {
         let (mut hosts, mut said) = (Vec::new(alloc), Vec::new(alloc));
         let (options, log, administration) = begun(&rt, alloc, &visited.site)?;
         let reader = BufReader::new(alloc, console_lines(&rt, alloc, &visited, &mut hosts))?;
@@ -51,7 +52,8 @@ fn they_have_them_where_calls_have_a_deadline(rt: HostRuntime) -> Result<(), Fai
     let process = process::id(rt.process()).wrapping_add(OTHER_PORTS);
     let paths = new_paths(&rt, alloc, process)?;
     let scripts = new_scripts(alloc)?;
-    for visited in story(&rt, process, &paths, &scripts)? {
+    let (site, left) = sites(&rt, process, &paths)?;
+    for visited in story(site, left, &scripts) {
         let (mut hosts, mut said) = (Vec::new(alloc), Vec::new(alloc));
         let (options, log, administration) = begun(&rt, alloc, &visited.site)?;
         let reader = BufReader::new(alloc, console_lines(&rt, alloc, &visited, &mut hosts))?;

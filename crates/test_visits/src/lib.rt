@@ -8,5 +8,6 @@ mod site;
 mod stories;
 mod visits;
 
-pub use stories::{Paths, Scripts, begun, compare_end, new_paths, new_scripts, story};
+pub use site::Site;
+pub use stories::{Paths, Scripts, begun, compare_end, new_paths, new_scripts, sites, story};
 pub use visits::{Lines, Visited, console_lines};

@@ -195,8 +195,8 @@ fn site_of<'a, R: Net<Listener = TcpListener, Stream = TcpStream>>(
     }
 }
 
-// Makes the files of the first array: where it is served, and where the one over their copies.
-fn sites<'a, R: Files<File = File> + Net<Listener = TcpListener, Stream = TcpStream>>(
+/// Makes the files of the first array: where it is served, and where the one over their copies.
+pub fn sites<'a, R: Files<File = File> + Net<Listener = TcpListener, Stream = TcpStream>>(
     rt: &R,
     process: u32,
     paths: &'a Paths,
@@ -209,14 +209,8 @@ fn sites<'a, R: Files<File = File> + Net<Listener = TcpListener, Stream = TcpStr
 }
 
 /// An array over new files, which are copied behind its visits, and one over the copies.
-pub fn story<'a, R: Files<File = File> + Net<Listener = TcpListener, Stream = TcpStream>>(
-    rt: &R,
-    process: u32,
-    paths: &'a Paths,
-    scripts: &'a Scripts,
-) -> Result<[Visited<'a>; 2], Fail> {
-    let (site, left) = sites(rt, process, paths)?;
-    Ok([
+pub fn story<'a>(site: Site<'a>, left: Site<'a>, scripts: &'a Scripts) -> [Visited<'a>; 2] {
+    [
         Visited {
             site,
             visits: scripts.before.as_str(),
@@ -229,7 +223,7 @@ pub fn story<'a, R: Files<File = File> + Net<Listener = TcpListener, Stream = Tc
             said: restarted(),
             left: None,
         },
-    ])
+    ]
 }
 
 /// What the array of a site is asked for, its log, and by what administrators reach it.
