@@ -6,15 +6,16 @@ ghost use Rattle.portal.specs.Lanes.{AreLanesOf};
 ghost use Rattle.scsi_types.specs.declared.names.Group.TheVariants.{One, Two};
 ghost use Rattle.unit_history.specs.Naming.{IsNamed};
 
-use crate::disks::OpenArray;
 use crate::portals::{self, Portal, Ports};
 use array_administration::{
     Administration, Operations, Sockets, answer, console, control_path, open,
 };
+use array_files::{OpenArray, Parts, start_timed};
 use array_operations::{AdministeredServer, Operated};
 use array_units::Units;
 use block_file::{Blocks, Opener};
 use command_line::{Fault, MAX_UNITS, Options};
+use disk_files::FileDevice;
 use disk_preparer::{OnDisk, Preparer};
 use event_log::Log;
 use events::{Event, Resource};
@@ -32,7 +33,7 @@ use std::random::RandomSource;
 use std::rt::Files;
 use std::sync::{Arc, Mutex, Wait};
 use std::thread::Threads;
-use std::time::Clock;
+use std::time::{Clock, Duration};
 use unit_history::{NewUnit, Opened};
 use unit_sequence::ArrayNaming;
 
@@ -316,6 +317,56 @@ pub fn serve<
     requires disks { map (λ new. B.OnDisk.disk new.unit.device) array.units.items ≡ map P.disk array.preparers.items }
 {
     serve_named::<Brand, B, F, O, P, R, I, C>(
+        rt,
+        alloc,
+        options,
+        array,
+        log,
+        administration,
+        reader,
+        writer,
+    )
+}
+
+/// Serves the array over these parts, as `serve` does. Each call on their files takes so long at most.
+pub fn serve_timed<
+    R: Threads
+        + Wait
+        + Clock
+        + Files<File = File>
+        + Net<Listener = TcpListener, Stream = TcpStream>
+        + RandomSource
+        + Clone
+        + Drop
+        + Send
+        + Sync
+        + 'static,
+    B: FileDevice + Send + Sync + 'static,
+    F: FileDevice + Send + Sync + 'static,
+    O: Opener<B> + Send + Sync + 'static,
+    P: Preparer + Send + Sync + 'static,
+    I: BufRead + Drop,
+    C: Write,
+>(
+    rt: &R,
+    alloc: Global,
+    options: &Options<'_>,
+    parts: Vec<Parts<B, F, O, P>>,
+    patience: Duration,
+    log: &Log,
+    administration: Option<Administration<'_>>,
+    reader: I,
+    writer: &mut C,
+) -> Result<(), Fault> {
+    let array = match start_timed(rt, alloc, log, parts, patience) {
+        Ok(array) => array,
+        Err(fault) => {
+            tell_want(rt, log, fault);
+            event_log::close(rt, log);
+            return Err(fault);
+        }
+    };
+    serve(
         rt,
         alloc,
         options,

@@ -5,22 +5,17 @@ ghost use Rattle.std.specs.Prelude.{◌≡◌, ◌≤◌, IfOk, length};
 ghost use Rattle.std.specs.Process.{exit_status};
 ghost use Rattle.command_line.specs.Fault.{status_of};
 
-mod administration;
-mod log_file;
 mod once;
-mod settings;
-mod standard;
-mod target_name;
-mod usage;
-mod wrong_words;
 
-use administration::Asked;
 use array::{Attended, open, open_files, serve, serve_timed, tell_want};
 use command_line::{Fault, MAX_UNITS, Options};
 use event_log::{Log, start};
 use events::Event;
-use log_file::{LogFile, NotHeld};
-use settings::Settings;
+use settings::administration::Asked;
+use settings::environment::{self, Settings};
+use settings::log_file::{self, LogFile, NotHeld};
+use settings::wrong_words::{self, Shown};
+use settings::{standard, target_name, usage};
 use std::alloc::Global;
 use std::env::Env;
 use std::fs::File;
@@ -28,7 +23,6 @@ use std::process::ExitCode;
 use std::rt::Files;
 use std::time::Clock;
 use std::{env, io};
-use wrong_words::Shown;
 
 // The program's words, its own name first.
 fn all_words(rt: &(impl Env + AllocGlobal)) -> Result<Vec<String>, Fault> {
@@ -205,12 +199,12 @@ fn asked<
         let part = part.unwrap_or(String::new(alloc));
         return Err(refuse(rt, alloc, Fault::WrongWords, part.as_str()));
     }
-    match settings::unknown(rt) {
+    match environment::unknown(rt) {
         Ok(None) => {}
         Ok(Some(name)) => return Err(refuse(rt, alloc, Fault::WrongWords, name.as_str())),
         Err(fault) => return Err(complain(rt, fault, "")),
     }
-    match settings::read(rt) {
+    match environment::read(rt) {
         Ok(settings) => {
             options.second_host = settings.second_host;
             Ok((options, settings))

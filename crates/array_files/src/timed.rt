@@ -6,9 +6,7 @@ ghost use Rattle.unit_state.specs.Serials.{IsOpening};
 use crate::disks::{
     OpenArray, fault_of, look_at_units, open_blocks, open_preparer, open_record, place_of,
 };
-use crate::served::{serve, tell_want};
 use aptpl_file::RegFile;
-use array_administration::Administration;
 use block_file::{KeepOpener, Opener};
 use command_line::{Fault, MAX_UNITS, Options};
 use deadline::{Deadlined, DeadlinedOpener, DeadlinedPreparer};
@@ -21,9 +19,6 @@ use reservations::Record;
 use scsi_types::Place;
 use std::alloc::Global;
 use std::fs::File;
-use std::io::{BufRead, Write};
-use std::net::{Net, TcpListener, TcpStream};
-use std::random::RandomSource;
 use std::rt::Files;
 use std::sync::{Arc, Wait};
 use std::thread::Threads;
@@ -61,8 +56,8 @@ pub type FileParts<R> = Parts<
 // A unit whose calls have a deadline, over such parts.
 type TimedUnit<R, B, F, O> = Unit<Deadlined<R, B, O>, Deadlined<R, F, KeepOpener>, DeadlinedOpener>;
 
-// An array of such units.
-type TimedArray<R, B, F, O, P> = OpenArray<
+/// An array of such units.
+pub type TimedArray<R, B, F, O, P> = OpenArray<
     Deadlined<R, B, O>,
     Deadlined<R, F, KeepOpener>,
     DeadlinedOpener,
@@ -200,8 +195,8 @@ impl<
     }
 }
 
-// The array over these parts, in order.
-fn start_timed<
+/// The array over these parts, in order. Each call on their files takes so long at most.
+pub fn start_timed<
     R: Threads + Wait + Clock + Clone + Drop + Send + Sync + 'static,
     B: FileDevice + Send + 'static,
     F: FileDevice + Send + 'static,
@@ -228,54 +223,4 @@ fn start_timed<
         return Err(Fault::WrongWords);
     }
     Ok(array)
-}
-
-/// Serves the array over these parts, as `serve` does. Each call on their files takes so long at most.
-pub fn serve_timed<
-    R: Threads
-        + Wait
-        + Clock
-        + Files<File = File>
-        + Net<Listener = TcpListener, Stream = TcpStream>
-        + RandomSource
-        + Clone
-        + Drop
-        + Send
-        + Sync
-        + 'static,
-    B: FileDevice + Send + Sync + 'static,
-    F: FileDevice + Send + Sync + 'static,
-    O: Opener<B> + Send + Sync + 'static,
-    P: Preparer + Send + Sync + 'static,
-    I: BufRead + Drop,
-    C: Write,
->(
-    rt: &R,
-    alloc: Global,
-    options: &Options<'_>,
-    parts: Vec<Parts<B, F, O, P>>,
-    patience: Duration,
-    log: &Log,
-    administration: Option<Administration<'_>>,
-    reader: I,
-    writer: &mut C,
-) -> Result<(), Fault> {
-    let array = match start_timed(rt, alloc, log, parts, patience) {
-        Ok(array) => array,
-        Err(fault) => {
-            tell_want(rt, log, fault);
-            event_log::close(rt, log);
-            return Err(fault);
-        }
-    };
-    serve(
-        rt,
-        alloc,
-        options,
-        array,
-        log,
-        administration,
-        reader,
-        writer,
-    )
 }

@@ -1,8 +1,8 @@
 //! What the environment asks for to administer the array by: the window and the control socket.
 
-use crate::settings::value_of;
+use crate::environment::value_of;
 use crate::usage::VERSION;
-use array::{Administration, bind_window};
+use array_administration::{Administration, bind_window};
 use command_line::Fault;
 use event_log::Log;
 use meters::Meters;
