@@ -26,7 +26,7 @@ ONE, OTHER, AS_IT_IS, CHECKER = "one", "other", "as it is", "as it is, the check
 BROKEN = {
     "first_steps": Broken(ONE, "crates/compare_write/src/compare.rt", "        Some(at) => MediumEnd::Miscompare(at),\n        None =>",
                           "        Some(at) if blocks > 1 => MediumEnd::Miscompare(at),\n        _ =>", "first_steps.py", "is a miscompare"),
-    "faults": Broken(ONE, "crates/array/src/disks.rt", '"it is no registration file"', '"it is of another version"', "faults.py",
+    "faults": Broken(ONE, "crates/array_files/src/disks.rt", '"it is no registration file"', '"it is of another version"', "faults.py",
                      "does not name 'it is no registration file"),
     "reservations": Broken(ONE, "crates/reservations/src/remove.rt", "registrants.clear();\n        self.count();",
                            "registrants.clear();", "reservations.py --requests 300", "PERSISTENT RESERVE IN"),
