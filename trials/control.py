@@ -111,7 +111,7 @@ def names_of_units(folder):
         session, wanted = host(1), []
         for unit in range(2):
             naa, serial = session.inquiry(unit, 0x83)[8:16].hex(), session.inquiry(unit, 0x80)[4:].decode()
-            wanted.append(f'unit {unit} wwid 3{naa} serial {serial} blocks 4096 disk "{folder}/disk{unit}"')
+            wanted.append(f'unit {unit} naa {naa} wwid 3{naa} serial {serial} blocks 4096 disk "{folder}/disk{unit}"')
         is_so("units", asked(folder, "units"), wanted)
         array.quit()
 
@@ -575,7 +575,10 @@ def console_of_the_service(folder):
         is_so("none", (ask("end", "65535").returncode, ask("end", "x").returncode), (1, 2))
         is_so("down", ask("down", "1").stdout, "down\n")
         is_so("health", (ask("health").stdout[:9], ask("health").returncode), ("degraded:", 0))
-        is_so("no such line", ask("down", "3").returncode, 2)
+        for line, numbers in (("down 3", "controllers are 1 and 2"), ("up", "controllers are 1 and 2"), ("keys 9", "units are 0 to 7"),
+                              ("end 99999", "a TSIH is 0 to 65535")):
+            is_so(line, (lambda end: (end.returncode, end.stderr))(ask(*line.split())), (2, f"arrayd-console: {line}: {numbers}\n"))
+        is_so("no such line", (lambda end: (end.returncode, "usage: arrayd-console" in end.stderr))(ask("no")), (2, True))
         is_so("quit", (lambda end: (end.returncode, end.stdout))(ask("quit")), (0, ""))
         is_so("it has ended", program.poll(), 0)
         is_so("no array", ask("sessions").returncode, 3)

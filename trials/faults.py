@@ -58,6 +58,8 @@ VARIABLES = [
     *(({"ARRAYD_LOG": name}, "ARRAYD_LOG") for name in ("./odd.reg", "./odd.unit", "other.unit")),
     # it has no name beside which files of a disk lie, whether the disk is there or not
     *(({"ARRAYD_LOG": name}, "ARRAYD_LOG") for name in ("noreg", "./noreg", "gone")),
+    # nor does it lead there: what a link is called says nothing of the disk
+    *(({"ARRAYD_LOG": name}, "ARRAYD_LOG") for name in ("to_served", "to_reg")),
     # it is no link that leads nowhere, and no block device
     *(({"ARRAYD_LOG": name}, "ARRAYD_LOG") for name in ("nowhere", "device")),
 ]
@@ -131,7 +133,7 @@ def logs():
     for more, named in VARIABLES:
         refused(["disk"], WRONG, f": {named}\n", more=more)
     for words, more, named in BEFORE_THE_DISK:
-        for log in ("disk", "./disk", "link", "disk.reg", "linked", "odd.unit", "noreg", "gone", "nowhere", "device"):
+        for log in ("disk", "./disk", "link", "disk.reg", "linked", "odd.unit", "noreg", "gone", "nowhere", "device", "to_served"):
             refused(words, WRONG, f"{named}\n", more={**more, "ARRAYD_LOG": log})
     for words, named in NOT_LOOKED_AT:
         for log in ("disk", "no_text", "lines"):
@@ -180,6 +182,11 @@ def main():
         os.truncate("odd", 16 * 512 + 1)
         os.symlink("disk", "link")
         os.symlink("new.reg", "nowhere")
+        os.mkdir("away")
+        for name, blocks in [("away/served", 16), ("away/served.unit", 1), ("away/lost.reg", 1)]:
+            made(name, blocks)
+        os.symlink("away/served", "to_served")
+        os.symlink("away/lost.reg", "to_reg")
         # a disk whose name is no text has another one that is
         os.link(made("disk\udcff", 16), "no_text")
         block_device("device")

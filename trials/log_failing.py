@@ -14,7 +14,8 @@ HOST = ("InitiatorName", "iqn.2000-01.test:host")
 NORMAL = [HOST, ("TargetName", TARGET)]
 # As crates/events/specs names them; and one that has no name there.
 ERRORS = ["ENOENT", "EIO", "ENXIO", "EBADF", "ENOMEM", "EACCES", "EBUSY", "ENODEV", "EINVAL", "ENFILE", "EMFILE", "EFBIG", "ENOSPC",
-          "EROFS", "EADDRINUSE", "EADDRNOTAVAIL", "ETIMEDOUT", "ESTALE", "EREMOTEIO", "EDQUOT", "EPROTO"]
+          "EROFS", "ENODATA", "ENOLINK", "EILSEQ", "EOPNOTSUPP", "EADDRINUSE", "EADDRNOTAVAIL", "ETIMEDOUT", "ESTALE", "EREMOTEIO",
+          "EDQUOT", "EPROTO"]
 
 
 def calls(folder):

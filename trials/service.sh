@@ -266,6 +266,26 @@ IPAddressAllow=localhost
 IPAddressDeny=any
 0'
 is 'where its networks are asked for, as the system has them' "$(OPTIONS='--host 0.0.0.0' prepared one | grep -c 'IPAddressAllow=localhost')" 1
+python3 -B - "$place" > "$place/told" << 'END'
+import sys
+from importlib.machinery import SourceFileLoader
+from importlib.util import module_from_spec, spec_from_loader
+from types import SimpleNamespace
+loader = SourceFileLoader("prepare", "service/arrayd-prepare")
+prepare = module_from_spec(spec_from_loader("prepare", loader))
+loader.exec_module(prepare)
+path = f"{sys.argv[1]}/hosts.conf"
+prepare.subprocess.run = lambda *_, **how: SimpleNamespace(stdout=path + "\n")
+for text in ("IPAddressAllow=10.0.5.0/24", "IPAddressAllow = 10.0.5.0/24\nIPAddressDeny=any", "IPAddressDeny=10.0.5.9"):
+    with open(path, "w", encoding="ascii") as file:
+        file.write(f"[Service]\n{text}\n")
+    said = prepare.said_in_drop_ins("arrayd@one.service")
+    hosts = prepare.networks({"OPTIONS": "--host 203.0.113.77"}, "IPAddressAllow" in said)
+    print([line for line in prepare.properties([], hosts, said) if line[-1] != "="])
+END
+is 'whom a drop-in does not name is kept out, unless it says itself whom' "$(cat "$place/told")" "['IPAddressDeny=any']
+[]
+['IPAddressAllow=localhost', 'IPAddressDeny=any']"
 is 'a host that is none is refused' "$(HOSTS='10.0.5.0/24 host7' prepared one)" "arrayd-prepare: HOSTS: 'host7' does not appear to be an IPv4 or IPv6 network
 2"
 is 'and a name of which no user can be made' "$(prepared one.two; prepared abcdefghijklmnopqrstuvwxyz | tail -1)" \

@@ -284,7 +284,7 @@ def wrong(unit, trouble):
     code, _, said = get("/health")
     is_so("health", code, 503)
     for line in said.decode().splitlines():
-        words_ = re.fullmatch(f"unit {unit}: (.*?)(?: call=[a-z]+ error=[a-zA-Z]+ count=[0-9]+ began=[^ ]*Z last=[^ ]*Z)?", line)[1]
+        words_ = re.fullmatch(f"unit {unit}: (.*?)(?: call=[a-z]+ error=[a-zA-Z]+( errno=[0-9]+)? count=[0-9]+ began=[^ ]*Z last=[^ ]*Z)?", line)[1]
         if words_ not in page:
             raise Wrong(f"docs/TROUBLE.md does not say: {words_}")
     view = status()
@@ -340,6 +340,11 @@ def write_that_found_no_room(folder):
         is_so("a flush", flush(session), GOOD)
         over(0, "disk", "write", "ENOSPC")
         is_so("counted", value(metrics(), "arrayd_device_failures_total", unit=0, file="disk", call="write"), 1)
+        # a number stands for an error without a name, and what is over does not count any more
+        failing.let("pwrite", errno.EPROTO)
+        is_so("another write", end_of(session.command(0, [0x2A, 0, 0, 0, 0, 7, 0, 0, 1, 0], out=bytes(512))), "03 0C/00")
+        is_so("of its own", f" call=write error=other errno={errno.EPROTO} count=1 began=" in get("/health")[2].decode(), True)
+        is_so("of both", [one["count"] for one in status()["units"][0]["failures"]], [2])
         array.quit()
 
 
@@ -675,6 +680,8 @@ def names_of_a_unit(folder):
             number = unit["unit"]
             page = session.inquiry(number, 0x83)
             is_so("NAA", unit["naa"], page[8:16].hex())
+            is_so("/metrics", value(metrics(), "arrayd_unit_info", unit=number, disk=unit["disk"], naa=unit["naa"], wwid=unit["wwid"],
+                                    serial=unit["serial"]), 1)
             is_so("WWID", unit["wwid"], "3" + page[8:16].hex())
             is_so("serial number", unit["serial"], session.inquiry(number, 0x80)[4:].decode())
             told = subprocess.run([f"{TOP}/service/arrayd-reg", f"{folder}/disk{number}.reg"], capture_output=True, text=True, check=True)

@@ -94,8 +94,10 @@ fn deed_in(text: &str) -> Option<Deed> {
 
 // Writes a line for a unit. The name of its disk stands last and between quotes, spelled as the log spells names.
 fn say_unit<W: Write>(alloc: Global, writer: &mut W, unit: &UnitView) -> io::Result<()> {
-    let (place, wwid, serial) = (unit.unit, unit.wwid.as_str(), unit.serial.as_str());
-    write!(writer, "unit {place} wwid {wwid} serial {serial} ")?;
+    let (place, naa, wwid) = (unit.unit, unit.naa.as_str(), unit.wwid.as_str());
+    write!(writer, "unit {place} naa {naa} wwid {wwid} ")?;
+    let serial = unit.serial.as_str();
+    write!(writer, "serial {serial} ")?;
     let (blocks, disk) = (unit.blocks, spelled(alloc, unit.disk.as_bytes())?);
     writeln!(writer, "blocks {blocks} disk \"{disk}\"")
 }

@@ -150,12 +150,13 @@ fn path_label(path: &PathView) -> Label<'static> {
 // The disk of a unit, and what hosts know it by.
 fn disk(text: &mut String, name: &str, unit: &UnitView) -> Result<(), AllocError> {
     let disk = Label::Name("disk", unit.disk.as_bytes());
+    let naa = Label::Word("naa", unit.naa.as_str());
     let wwid = Label::Word("wwid", unit.wwid.as_str());
     let serial = Label::Word("serial", unit.serial.as_str());
     put(
         text,
         name,
-        &[unit_label(unit), disk, wwid, serial],
+        &[unit_label(unit), disk, naa, wwid, serial],
         Count(1),
     )
 }

@@ -35,6 +35,9 @@ const FLUSH: &str = "flush";
 
 const HUNG: &str = "hung";
 
+/// What is shown as the name of an error of the system that has none here.
+const UNNAMED: &str = "other";
+
 /// What may be wrong with a unit.
 #[derive(Clone, Copy)]
 pub enum Trouble {
@@ -253,6 +256,7 @@ fn failure_view(
         file,
         call,
         count: failures.count,
+        lasting: failures.lasting,
         is_now: failures.is_now,
         began: second(failures.began),
         last: second(failures.last),
@@ -307,10 +311,22 @@ fn put_second(text: &mut String, what: &str, second: u64) -> Result<(), AllocErr
     Stamp::of(Duration::from_secs(second)).put(text)
 }
 
-// Puts what failed behind a sentence, by the words of the log.
+// Puts an error behind a text: its name, and the number of one that has none.
+fn put_error(text: &mut String, failure: &FailureView) -> Result<(), AllocError> {
+    let (error, errno) = (failure.error, failure.errno);
+    write!(text, " error={error}")?;
+    if error == UNNAMED {
+        write!(text, " errno={errno}")?;
+    }
+    Ok(())
+}
+
+// Puts what failed behind a sentence, by the words of the log: how often, of what is not over.
 fn put_failure(text: &mut String, failure: &FailureView) -> Result<(), AllocError> {
-    let (call, error, count) = (failure.call, failure.error, failure.count);
-    write!(text, " call={call} error={error} count={count}")?;
+    let (call, count) = (failure.call, failure.lasting);
+    write!(text, " call={call}")?;
+    put_error(text, failure)?;
+    write!(text, " count={count}")?;
     put_second(text, " began=", failure.began)?;
     put_second(text, " last=", failure.last)
 }

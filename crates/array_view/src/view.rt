@@ -60,7 +60,9 @@ pub struct FailureView {
     /// `disk` or `registrations`; the call, or `hung` for one that took longer than the deadline.
     pub file: &'static str,
     pub call: &'static str,
+    /// How many failed since the array's start, and how many of them are not over.
     pub count: u64,
+    pub lasting: u64,
     /// Nothing of the kind has gone well since.
     pub is_now: bool,
     /// When the first one failed since all was well, when the last one did, and when it went well again.

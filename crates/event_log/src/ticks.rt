@@ -33,7 +33,8 @@ fn look_on<R: Wait + Clock>(rt: &R, meters: &Meters) {
     }
 }
 
-/// Starts the thread that looks at the clock for what is counted of a log's events, where that is counted.
+/// Looks at the clock for what is counted of a log's events, where that is counted, and starts the thread that goes on with it. So what
+/// is served from now on finds a time, however late the thread gets its turn.
 pub fn start_ticks<R: Threads + Wait + Clock + Clone + Drop + Send + 'static>(
     rt: &R,
     log: &Log,
@@ -41,6 +42,7 @@ pub fn start_ticks<R: Threads + Wait + Clock + Clone + Drop + Send + 'static>(
     let Some(meters) = log.shared_meters()? else {
         return Ok(());
     };
+    meters.tick(rt);
     let mine = rt.clone()?;
     let work = move || look_on(&mine, &meters);
     let _thread: JoinHandle<()> = Builder::new().stack_size(STACK).spawn(rt, work)?;

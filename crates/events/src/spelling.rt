@@ -170,6 +170,14 @@ fn error(line: &mut String, error: u32) -> Result<(), AllocError>
     )
 }
 
+// An error of the system, behind what it kept from being done.
+fn told_error(line: &mut String, what: &str, errno: u32) -> Result<(), AllocError>
+    ensures { OnOk result (string_bytes line.new ≡ joined (string_bytes line.old) (what.now ∷ error_in errno)) }
+{
+    put(line, &[Text(what)])?;
+    error(line, errno)
+}
+
 // What happened to a command of a session at a unit.
 fn command(line: &mut String, what: &str, unit: u8, operation: Operation) -> Result<(), AllocError>
     ensures { OnOk result (string_bytes line.new
@@ -437,8 +445,7 @@ fn cannot_control(line: &mut String, errno: u32) -> Result<(), AllocError>
     ensures { OnOk result (string_bytes line.new
         ≡ joined (string_bytes line.old) (parts (events.CannotControl errno))) }
 {
-    line.push_str("event=cannot_control")?;
-    error(line, errno)
+    told_error(line, "event=cannot_control", errno)
 }
 
 fn connection_ended(line: &mut String, by: &Path, end: Why) -> Result<(), AllocError>

@@ -6,8 +6,8 @@ use std::sync::atomic::{AtomicU64, Ordering};
 /// How often is tried to say that failures are over, where others say so at the same time.
 const TRIES: u32 = 16;
 
-/// So many runs of blocks that could not be read are known apart.
-const RUNS: usize = 8;
+/// So many runs of blocks that could not be read are known apart: a disk that dies has bad blocks at many places.
+const RUNS: usize = 64;
 
 /// What the first block of a run is multiplied by where their count stands beside it.
 const COUNTS: u64 = 1 << 32;
@@ -15,8 +15,9 @@ const COUNTS: u64 = 1 << 32;
 /// What was seen of calls of one kind that failed. Times are microseconds of the clock that never goes back.
 #[derive(Clone, Copy)]
 pub struct Failures {
-    /// How many failed.
+    /// How many failed, and how many of them are not over.
     pub count: u64,
+    pub lasting: u64,
     /// Nothing has gone well since the last of them.
     pub is_now: bool,
     /// When the first one failed since all was well, and when the last one did.
@@ -76,16 +77,7 @@ impl Tally {
             last: AtomicU64::new(0),
             ended: AtomicU64::new(0),
             error: AtomicU64::new(0),
-            runs: [
-                AtomicU64::new(0),
-                AtomicU64::new(0),
-                AtomicU64::new(0),
-                AtomicU64::new(0),
-                AtomicU64::new(0),
-                AtomicU64::new(0),
-                AtomicU64::new(0),
-                AtomicU64::new(0),
-            ],
+            runs: [0; RUNS].map(AtomicU64::new),
             first: AtomicU64::new(u64::MAX),
             behind: AtomicU64::new(0),
         }
@@ -146,8 +138,12 @@ impl Tally {
         for run in &self.runs {
             let now = run.load(Ordering::Acquire);
             let left = run_left(now, from, to);
-            let swapped = run.compare_exchange(now, left, Ordering::AcqRel, Ordering::Acquire);
-            are_read = are_read && left == 0 && swapped.is_ok();
+            // most places hold none of these blocks, and are left to who else reads
+            let is_left = left == now
+                || run
+                    .compare_exchange(now, left, Ordering::AcqRel, Ordering::Acquire)
+                    .is_ok();
+            are_read = are_read && left == 0 && is_left;
         }
         are_read
     }
@@ -200,9 +196,12 @@ impl Tally {
     /// What is seen of them.
     pub(crate) fn seen(&self) -> Failures {
         let error = self.error.load(Ordering::Relaxed);
+        let over = self.over.load(Ordering::Acquire);
+        let count = self.count();
         Failures {
-            count: self.count(),
-            is_now: self.is_now(),
+            count,
+            lasting: count.saturating_sub(over),
+            is_now: over < count,
             began: self.began.load(Ordering::Relaxed),
             last: self.last.load(Ordering::Relaxed),
             ended: self.ended.load(Ordering::Relaxed),

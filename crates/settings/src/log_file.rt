@@ -164,19 +164,44 @@ impl<R: Files<File = File> + Drop> LogFile<R> {
         Ok(false)
     }
 
-    // Whether a file lies beside it that an array leaves beside each disk that it has served.
-    fn was_served(&self) -> Result<bool, AllocError>
+    // Whether a file lies beside this name that an array leaves beside each disk that it has served.
+    fn was_served_as(&self, name: &str) -> Result<bool, AllocError>
     where
         R: AllocGlobal,
     {
         for ending in LEFT {
-            let mut path = String::from_str(self.rt.alloc(), self.path())?;
+            let mut path = String::from_str(self.rt.alloc(), name)?;
             path.push_str(ending)?;
             if fs::symlink_metadata(&self.rt, path.as_str()).is_ok() {
                 return Ok(true);
             }
         }
         Ok(false)
+    }
+
+    // Whether one lies where its name leads, by links: an array that served the disk by another name left it there.
+    fn was_served_there(&self) -> Result<bool, AllocError>
+    where
+        R: AllocGlobal,
+    {
+        match fs::canonicalize(&self.rt, self.path()) {
+            Ok(there) if is_beside(there.as_str()) => Ok(true),
+            Ok(there) => self.was_served_as(there.as_str()),
+            Err(e) if e.kind() == ErrorKind::OutOfMemory => Err(AllocError),
+            // nothing is there yet
+            Err(_) => Ok(false),
+        }
+    }
+
+    // Whether it is a disk that was served, or a file beside one.
+    fn was_served(&self) -> Result<bool, AllocError>
+    where
+        R: AllocGlobal,
+    {
+        if self.was_served_as(self.path())? {
+            return Ok(true);
+        }
+        self.was_served_there()
     }
 
     // The file, unless it is one of these disks, or lies beside one.

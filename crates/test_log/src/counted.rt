@@ -1,6 +1,6 @@
 //! What is counted of an array, and when what failed is over.
 use crate::ends::must;
-use event_log::Log;
+use event_log::{Log, start_ticks};
 use events::{Call, Event, Operation, Part, Place};
 use meters::{CALLS_IN_ORDER, Counts, Ended, Failures, Happenings, Meters, Served, UnitHappenings};
 use std::alloc::{AllocError, Global};
@@ -145,7 +145,7 @@ fn seen_behind<R: Wait>(rt: &R, alloc: Global, steps: &[Step]) -> Result<String,
 
 #[test]
 fn what_failed_is_over_by_what_went_well(rt: HostRuntime) -> Result<(), Fail> {
-    let rows: [(&[Step], &str); 27] = [
+    let rows: [(&[Step], &str); 25] = [
         (&[], ""),
         // Of its own unit, and no growth.
         (&[Hangs(1)], "1 disk hung 1 now;"),
@@ -213,40 +213,6 @@ fn what_failed_is_over_by_what_went_well(rt: HostRuntime) -> Result<(), Fail> {
             ],
             "0 disk read 2 over;",
         ),
-        // At more places than are known apart: read from the first on.
-        (
-            &[
-                FailsToReadOne(0, 0),
-                FailsToReadOne(0, 100),
-                FailsToReadOne(0, 200),
-                FailsToReadOne(0, 300),
-                FailsToReadOne(0, 400),
-                FailsToReadOne(0, 500),
-                FailsToReadOne(0, 600),
-                FailsToReadOne(0, 700),
-                FailsToReadOne(0, 800),
-                FailsToReadOne(0, 900),
-                Reads(0, 0, 850),
-            ],
-            "0 disk read 10 now;",
-        ),
-        (
-            &[
-                FailsToReadOne(0, 0),
-                FailsToReadOne(0, 100),
-                FailsToReadOne(0, 200),
-                FailsToReadOne(0, 300),
-                FailsToReadOne(0, 400),
-                FailsToReadOne(0, 500),
-                FailsToReadOne(0, 600),
-                FailsToReadOne(0, 700),
-                FailsToReadOne(0, 800),
-                FailsToReadOne(0, 900),
-                Reads(0, 0, 850),
-                Reads(0, 850, 51),
-            ],
-            "0 disk read 10 over;",
-        ),
         // A save that came too late was told as failed, however it ended.
         (&[IsBack(0, Call::Flush)], "0 file write 1 now;"),
         (&[IsBack(0, Call::Read)], ""),
@@ -265,6 +231,110 @@ fn what_failed_is_over_by_what_went_well(rt: HostRuntime) -> Result<(), Fail> {
     for (steps, wanted) in &rows {
         let told = seen_behind(&rt, rt.alloc(), steps)?;
         must(&rt, told.as_str() == *wanted, wanted, &told);
+    }
+    Ok(())
+}
+
+/// So many places are known apart at which reads failed.
+const PLACES: u32 = 64;
+
+// Tells that a read failed at each of so many blocks, which lie apart.
+fn fail_apart(log: &Log, blocks: u32) {
+    for number in 0..blocks {
+        make(log, FailsToReadOne(0, number.saturating_mul(100)));
+    }
+}
+
+// Reads each of so many of them alone, in no order: the steps of so many go round.
+fn read_apart(log: &Log, blocks: u32, step: u32) {
+    let mut number = 0u32;
+    for _ in 0..blocks {
+        make(log, Reads(0, number.saturating_mul(100), 1));
+        number = match number.saturating_add(step).checked_rem(blocks) {
+            Some(next) => next,
+            None => 0,
+        };
+    }
+}
+
+// How many reads of a unit failed, and how many of them are not over.
+fn reads_of<R: Wait>(rt: &R, alloc: Global, meters: &Meters) -> Result<String, Fail> {
+    let seen = meters.look(rt, alloc, Duration::ZERO)?;
+    let mut text = String::new(alloc);
+    for unit in &seen.happened.units {
+        for failures in &unit.disk {
+            let (count, lasting) = (failures.count, failures.lasting);
+            if count != 0 {
+                write!(text, "{count} {lasting};")?;
+            }
+        }
+    }
+    Ok(text)
+}
+
+#[test]
+fn reads_that_failed_at_many_places_are_over_in_any_order(rt: HostRuntime) -> Result<(), Fail> {
+    // How many places, the step by which they are read, and what is told when each was read.
+    let rows = [
+        (40, 17, "40 0;"),
+        (PLACES, 27, "64 0;"),
+        // Of those behind, what lies between them wants to be read too.
+        (70, 69, "70 70;"),
+    ];
+    for (blocks, step, wanted) in &rows {
+        let meters = Arc::new(rt.alloc(), Meters::new(rt.alloc(), 1)?)?;
+        let log = Log::off().counting(Arc::try_clone(&meters)?);
+        fail_apart(&log, *blocks);
+        read_apart(&log, *blocks, *step);
+        let told = reads_of(&rt, rt.alloc(), &meters)?;
+        must(&rt, told.as_str() == *wanted, wanted, &told);
+    }
+    Ok(())
+}
+
+#[test]
+fn reads_that_failed_at_too_many_places_are_over_in_order(rt: HostRuntime) -> Result<(), Fail> {
+    let meters = Arc::new(rt.alloc(), Meters::new(rt.alloc(), 1)?)?;
+    let log = Log::off().counting(Arc::try_clone(&meters)?);
+    fail_apart(&log, 70);
+    for (step, wanted) in &[
+        (Reads(0, 0, 6650), "70 70;"),
+        (Reads(0, 6650, 251), "70 0;"),
+    ] {
+        make(&log, *step);
+        let told = reads_of(&rt, rt.alloc(), &meters)?;
+        must(&rt, told.as_str() == *wanted, wanted, &told);
+    }
+    Ok(())
+}
+
+#[test]
+fn what_is_over_is_counted_apart(rt: HostRuntime) -> Result<(), Fail> {
+    let meters = Arc::new(rt.alloc(), Meters::new(rt.alloc(), 1)?)?;
+    let log = Log::off().counting(Arc::try_clone(&meters)?);
+    let steps = [
+        (Fails(0, Call::Write), "1 1;"),
+        (Fails(0, Call::Write), "2 2;"),
+        (Flushes(0, 2), "2 0;"),
+        (Fails(0, Call::Write), "3 1;"),
+    ];
+    for (step, wanted) in &steps {
+        make(&log, *step);
+        let told = reads_of(&rt, rt.alloc(), &meters)?;
+        must(&rt, told.as_str() == *wanted, wanted, &told);
+    }
+    Ok(())
+}
+
+#[test]
+fn the_clock_is_looked_at_before_its_thread_runs(rt: HostRuntime) -> Result<(), Fail> {
+    // Of many, since a thread may have had its turn by chance.
+    for _ in 0..50 {
+        let meters = Arc::new(rt.alloc(), Meters::new(rt.alloc(), 1)?)?;
+        let log = Log::off().counting(Arc::try_clone(&meters)?);
+        let is_started = start_ticks(&rt, &log).is_ok();
+        let now = meters.now();
+        must(&rt, is_started && now != 0, "the clock", &now);
     }
     Ok(())
 }

@@ -243,7 +243,7 @@ function card(unit, old, now) {
   const box = (number, name) => make('div', 'box ' + name + (unit.owner === number ? ' owns' : ''), 'controller ' + number,
     make('div', 'soft', unit.owner === number ? 'owner' : ' '));
   parts.head.replaceChildren(make('h3', '', 'Unit ' + unit.unit + ' ', make('span', 'mono soft', unit.disk)),
-    make('div', 'mono soft', 'WWID ' + unit.wwid + ', serial number ' + unit.serial));
+    make('div', 'mono soft', 'NAA ' + unit.naa + ', WWID ' + unit.wwid + ', serial number ' + unit.serial));
   parts.draw.replaceChildren(box(1, 'one'), wire(first), make('div', 'box', 'unit ' + unit.unit), wire(second), box(2, 'two'));
   parts.pair.replaceChildren(...pairOf(unit, old?.units[unit.unit], old ? now - old.at : 0));
   parts.bytes.show(now, stepsOf(u => [u.read_bytes, u.written_bytes], unit.unit));
@@ -290,7 +290,8 @@ function registrationsOf(view) {
 function failuresOf(view) {
   const rows = view.units.flatMap(unit => unit.failures.map(one => ({ unit: unit.unit, ...one })));
   rows.sort((one, other) => other.last - one.last);
-  return rows.map(one => ({ unit: one.unit, file: one.file, call: one.call, error: one.error, count: one.count,
+  return rows.map(one => ({ unit: one.unit, file: one.file, call: one.call, count: one.count,
+    error: one.error === 'other' ? 'errno ' + one.errno : one.error,
     began: moment(one.began), last: moment(one.last), over: one.ended === null ? 'no' : moment(one.ended) }));
 }
 // The state of all, beside the name and in the title.
