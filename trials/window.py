@@ -614,10 +614,10 @@ def answers(folder):
             code, fields, body = asked(f"HEAD {path} HTTP/1.1\r\nHost: localhost\r\n\r\n".encode())
             full = get(path)
             is_so("HEAD", (code, fields["content-length"], body), (full[0], full[1]["content-length"], b""))
-        for name in (f"127.0.0.1:{AT}", "10.1.2.3", "localhost", f"localhost:{AT}", f"LOCALHOST:{AT}", "LocalHost"):
+        for name in (f"127.0.0.1:{AT}", "127.0.0.1", "localhost", f"localhost:{AT}", f"LOCALHOST:{AT}", "LocalHost"):
             is_so(name, get("/health", name)[0], 200)
-        for name in ("evil.example", f"evil.example:{AT}", "localhost.evil.example", "127.0.0.1.evil.example", "1.2.3", "here"):
-            is_so(name, get("/status", name)[::2], (421, b"ask by an address, or as localhost\n"))
+        for name in ("evil.example", f"evil.example:{AT}", "localhost.evil.example", "127.0.0.1.evil.example", "1.2.3", "10.1.2.3", f"127.0.0.2:{AT}", "here"):
+            is_so(name, get("/status", name)[::2], (421, b"ask by the address of the array, or as localhost\n"))
         is_so("no Host", asked(b"GET /health HTTP/1.0\r\n\r\n")[0], 200)
         is_so("a body", asked(b"GET / HTTP/1.1\r\nHost: localhost\r\nContent-Length: 5\r\n\r\nhello")[0], 413)
         is_so("long field", asked(b"GET / HTTP/1.1\r\nHost: localhost\r\nA: " + b"x" * 8200 + b"\r\n\r\n")[0], 431)

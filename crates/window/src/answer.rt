@@ -33,19 +33,23 @@ fn without_port(value: &str) -> &str {
     }
 }
 
-// Whether a request with this field Host came by an address, or by the name that a machine gives itself. The owner of any other name
-// may have it lead here, and a page of his that a browser has open would read the answer (DNS rebinding). Programs may send none.
-fn is_for_us(host: Option<&str>) -> bool {
+// Whether a request with this field Host, which came in at this address, was meant for it, or for the name that a machine gives itself.
+// The owner of any other name may have it lead here, and a page of his that a browser has open would read the answer (DNS rebinding).
+// Programs may send none.
+fn is_for_us(host: Option<&str>, own: Ipv4Addr) -> bool {
     let Some(value) = host else {
         return true;
     };
     let host = without_port(value);
-    host.eq_ignore_ascii_case("localhost") || host.parse::<Ipv4Addr>().is_ok()
+    match host.parse::<Ipv4Addr>() {
+        Ok(address) => address == own,
+        Err(_) => host.eq_ignore_ascii_case("localhost"),
+    }
 }
 
-/// What a request with this method, this path and this field Host asks for. HEAD is GET without a body.
-pub fn asked_for(method: &str, path: &str, host: Option<&str>) -> Wanted {
-    if !is_for_us(host) {
+/// What a request with this method, this path and this field Host asks for, which came in at this address. HEAD is GET without a body.
+pub fn asked_for(method: &str, path: &str, host: Option<&str>, own: Ipv4Addr) -> Wanted {
+    if !is_for_us(host, own) {
         return Wanted::Misled;
     }
     if method != "GET" && method != "HEAD" {

@@ -9,6 +9,7 @@ use http::{HeaderName, HeaderValue, Request, StatusCode, header};
 use http_server::{Response, Service};
 use meters::Point;
 use std::alloc::{AllocError, Global};
+use std::net::Ipv4Addr;
 
 /// What collects the state of an array.
 pub trait Collector {
@@ -19,11 +20,12 @@ pub trait Collector {
     fn recent(&self, alloc: Global) -> Result<Vec<Point>, AllocError>;
 }
 
-/// Answers requests by what is collected.
+/// Answers requests, which came in at this address, by what is collected.
 #[derive(Drop)]
 pub struct Handler<'a, S: Collector> {
     alloc: Global,
     collector: &'a S,
+    own: Ipv4Addr,
 }
 
 // What kinds of texts there are.
@@ -153,7 +155,7 @@ fn refuse(response: &mut Response) -> Result<(), AllocError> {
 
 // That the request was meant for another server.
 fn mislead(response: &mut Response) -> Result<(), AllocError> {
-    let text = b"ask by an address, or as localhost\n";
+    let text = b"ask by the address of the array, or as localhost\n";
     say(response, StatusCode::MISDIRECTED_REQUEST, text)
 }
 
@@ -166,9 +168,13 @@ fn host_of(request: &Request<Bytes>) -> Option<&str> {
 }
 
 impl<'a, S: Collector> Handler<'a, S> {
-    /// Which answers by what this collects.
-    pub fn new(alloc: Global, collector: &'a S) -> Handler<'a, S> {
-        Handler { alloc, collector }
+    /// Which answers by what this collects what comes in at this address.
+    pub fn new(alloc: Global, collector: &'a S, own: Ipv4Addr) -> Handler<'a, S> {
+        Handler {
+            alloc,
+            collector,
+            own,
+        }
     }
 
     // Answers by what is seen now.
@@ -207,7 +213,7 @@ impl<S: Collector> Service for Handler<'_, S> {
     ) -> Result<(), AllocError> {
         put_common(response)?;
         let (method, path) = (request.method().as_str(), request.uri().path());
-        let wanted = asked_for(method, path, host_of(request));
+        let wanted = asked_for(method, path, host_of(request), self.own);
         self.tell(wanted, response)
     }
 }

@@ -6,7 +6,7 @@ use http1::Limits;
 use std::alloc::Global;
 use std::hash::RandomState;
 use std::io::{self, ErrorKind, Read};
-use std::net::{Shutdown, TcpListener, TcpStream};
+use std::net::{Ipv4Addr, Shutdown, SocketAddr, TcpListener, TcpStream};
 use std::random::RandomSource;
 use std::sync::{Arc, Mutex, Wait};
 use std::thread;
@@ -108,8 +108,8 @@ fn connection(alloc: Global, keys: RandomState) -> Connection {
     Connection::new(alloc, keys, CONFIG)
 }
 
-fn advance<S: Collector>(connection: &mut Connection, alloc: Global, collector: &S) {
-    connection.advance(&mut Handler::new(alloc, collector))
+fn advance<S: Collector>(connection: &mut Connection, alloc: Global, collector: &S, own: Ipv4Addr) {
+    connection.advance(&mut Handler::new(alloc, collector, own))
 }
 
 fn write_to(connection: &mut Connection, stream: &TcpStream) -> io::Result<usize> {
@@ -138,6 +138,14 @@ fn transfer(connection: &mut Connection, stream: &TcpStream, left: Duration) -> 
     Ok(true)
 }
 
+// The address of the array at which a connection came in.
+fn address_of(stream: &TcpStream) -> io::Result<Ipv4Addr> {
+    match stream.local_addr()? {
+        SocketAddr::V4(own) => Ok(*own.ip()),
+        SocketAddr::V6(_) => Err(ErrorKind::Unsupported.into()),
+    }
+}
+
 // Answers, until all is said.
 fn converse<R: Clock, S: Collector>(
     rt: &R,
@@ -147,8 +155,9 @@ fn converse<R: Clock, S: Collector>(
     stream: &TcpStream,
     began: Duration,
 ) -> io::Result<()> {
+    let own = address_of(stream)?;
     for _ in 0..u64::MAX {
-        advance(connection, alloc, collector);
+        advance(connection, alloc, collector, own);
         if connection.is_done() || !transfer(connection, stream, left(rt, began, LIFETIME)?)? {
             break;
         }
