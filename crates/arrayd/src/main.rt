@@ -7,7 +7,7 @@ ghost use Rattle.command_line.specs.Fault.{status_of};
 
 mod once;
 
-use array::{Attended, open, open_files, serve, serve_timed, tell_want};
+use array::{Administration, Attended, open, open_files, serve, serve_timed, tell_want};
 use command_line::{Fault, MAX_UNITS, Options};
 use event_log::{Log, start};
 use events::Event;
@@ -19,9 +19,13 @@ use settings::{standard, target_name, usage};
 use std::alloc::Global;
 use std::env::Env;
 use std::fs::File;
+use std::net::{Net, TcpListener, TcpStream};
 use std::process::ExitCode;
+use std::random::RandomSource;
 use std::rt::Files;
-use std::time::Clock;
+use std::sync::Wait;
+use std::thread::Threads;
+use std::time::{Clock, Duration};
 use std::{env, io};
 
 // The program's words, its own name first.
@@ -176,6 +180,44 @@ fn options_of<'a, R: Clock + Env + AllocGlobal + Files<File = File> + Eprint + C
     }
 }
 
+// Serves one session from standard input to standard output: the exit status.
+fn once_status(rt: &(impl Input + Print + Eprint), alloc: Global) -> ExitCode {
+    match once::serve_once(rt, alloc) {
+        Ok(()) => ExitCode::SUCCESS,
+        Err(fault) => complain(rt, fault, ""),
+    }
+}
+
+// The exit status, where a target may not have this name.
+fn look_at_target<R: Clock + Env + AllocGlobal + Files<File = File> + Eprint + Clone + Drop>(
+    rt: &R,
+    alloc: Global,
+    target: &str,
+) -> Result<(), ExitCode> {
+    if target_name::is_allowed(target) {
+        return Ok(());
+    }
+    let part = wrong_words::with_value(alloc, "--target", target);
+    let part = part.unwrap_or(String::new(alloc));
+    Err(refuse(rt, alloc, Fault::WrongWords, part.as_str()))
+}
+
+// What else the environment asks for; or the exit status, where a variable is wrong, or none of the program's.
+fn settings_of<R: Clock + Env + AllocGlobal + Files<File = File> + Eprint + Clone + Drop>(
+    rt: &R,
+    alloc: Global,
+) -> Result<Settings, ExitCode> {
+    match environment::unknown(rt) {
+        Ok(None) => {}
+        Ok(Some(name)) => return Err(refuse(rt, alloc, Fault::WrongWords, name.as_str())),
+        Err(fault) => return Err(complain(rt, fault, "")),
+    }
+    match environment::read(rt) {
+        Ok(settings) => Ok(settings),
+        Err(refused) => Err(refuse(rt, alloc, refused.0, refused.1)),
+    }
+}
+
 // The options, of the words and of the environment, and what else the environment asks for; or the exit status, where the words
 // ask for what is done at once, or where something is wrong.
 fn asked<
@@ -189,28 +231,12 @@ fn asked<
     }
     let mut options = options_of(rt, alloc, words)?;
     if options.is_once {
-        return Err(match once::serve_once(rt, alloc) {
-            Ok(()) => ExitCode::SUCCESS,
-            Err(fault) => complain(rt, fault, ""),
-        });
+        return Err(once_status(rt, alloc));
     }
-    if !target_name::is_allowed(options.target) {
-        let part = wrong_words::with_value(alloc, "--target", options.target);
-        let part = part.unwrap_or(String::new(alloc));
-        return Err(refuse(rt, alloc, Fault::WrongWords, part.as_str()));
-    }
-    match environment::unknown(rt) {
-        Ok(None) => {}
-        Ok(Some(name)) => return Err(refuse(rt, alloc, Fault::WrongWords, name.as_str())),
-        Err(fault) => return Err(complain(rt, fault, "")),
-    }
-    match environment::read(rt) {
-        Ok(settings) => {
-            options.second_host = settings.second_host;
-            Ok((options, settings))
-        }
-        Err(refused) => Err(refuse(rt, alloc, refused.0, refused.1)),
-    }
+    look_at_target(rt, alloc, options.target)?;
+    let settings = settings_of(rt, alloc)?;
+    options.second_host = settings.second_host;
+    Ok((options, settings))
 }
 
 // The same as `complain`, once the log is open: it is told of want of memory, and closed.
@@ -228,6 +254,129 @@ fn give_up(
     complain(rt, fault, file_of(fault, options, asked))
 }
 
+// The log and its file, which is held as long as what is given last is kept; or the exit status.
+fn opened_log<R: Env + AllocGlobal + Files<File = File> + Eprint + Clone + Drop>(
+    rt: &R,
+    alloc: Global,
+    options: &Options<'_>,
+    asked: &Asked,
+) -> Result<(Log, Option<LogFile<R>>, Option<File>), ExitCode> {
+    let (log, file) = match counting_log(rt, alloc, asked, options.paths.len()) {
+        Ok(found) => found,
+        Err(fault) => return Err(complain(rt, fault, variable_of(fault))),
+    };
+    match held_log(rt, &file, options) {
+        Ok(held) => Ok((log, file, held)),
+        Err(fault) => Err(complain(rt, fault, variable_of(fault))),
+    }
+}
+
+// What administrators reach the array by; or the exit status.
+fn opened_administration<'a>(
+    rt: &(impl Net<Listener = TcpListener, Stream = TcpStream> + Clock + Eprint),
+    log: &Log,
+    options: &Options<'_>,
+    asked: &'a Asked,
+) -> Result<Option<Administration<'a>>, ExitCode> {
+    match asked.opened(rt, log) {
+        Ok(administration) => Ok(administration),
+        Err(fault) => Err(give_up(rt, log, fault, options, asked)),
+    }
+}
+
+// Opens the files of the array and serves it, each call on them ending as the system ends it: the exit status. What serves closes the
+// log, whatever comes.
+fn serve_without_deadline<
+    R: Threads
+        + Wait
+        + Clock
+        + Files<File = File>
+        + Net<Listener = TcpListener, Stream = TcpStream>
+        + RandomSource
+        + Input
+        + Print
+        + Eprint
+        + Clone
+        + Drop
+        + Send
+        + Sync
+        + 'static,
+>(
+    rt: &R,
+    alloc: Global,
+    options: &Options<'_>,
+    asked: &Asked,
+    log: &Log,
+    administration: Option<Administration<'_>>,
+) -> ExitCode
+    requires few { length options.now.paths.items ≤ MAX_UNITS }
+{
+    let array = match open(rt, alloc, log, options) {
+        Ok(array) => array,
+        Err(fault) => return give_up(rt, log, fault, options, asked),
+    };
+    let reader = Attended::new(rt.reader(), log);
+    let mut writer = io::writer(rt);
+    let served = serve(
+        rt,
+        alloc,
+        options,
+        array,
+        log,
+        administration,
+        reader,
+        &mut writer,
+    );
+    status_of_end(rt, served, options, asked)
+}
+
+// The same, each call on them taking so long at most.
+fn serve_with_deadline<
+    R: Threads
+        + Wait
+        + Clock
+        + Files<File = File>
+        + Net<Listener = TcpListener, Stream = TcpStream>
+        + RandomSource
+        + Input
+        + Print
+        + Eprint
+        + Clone
+        + Drop
+        + Send
+        + Sync
+        + 'static,
+>(
+    rt: &R,
+    alloc: Global,
+    options: &Options<'_>,
+    asked: &Asked,
+    patience: Duration,
+    log: &Log,
+    administration: Option<Administration<'_>>,
+) -> ExitCode
+    requires few { length options.now.paths.items ≤ MAX_UNITS }
+{
+    let parts = match open_files(rt, alloc, log, options) {
+        Ok(parts) => parts,
+        Err(fault) => return give_up(rt, log, fault, options, asked),
+    };
+    let reader = Attended::new(rt.reader(), log);
+    let mut writer = io::writer(rt);
+    let served = serve_timed(
+        rt,
+        alloc,
+        options,
+        parts,
+        patience,
+        log,
+        administration,
+        reader,
+        &mut writer,
+    );
+    status_of_end(rt, served, options, asked)
+}
+
 fn main(rt: HostRuntime) -> ExitCode {
     let _standard = standard::taken(&rt);
     let alloc = rt.alloc();
@@ -240,13 +389,9 @@ fn main(rt: HostRuntime) -> ExitCode {
         Err(status) => return status,
     };
     let asked = &settings.asked;
-    let (log, file) = match counting_log(&rt, alloc, asked, options.paths.len()) {
-        Ok(found) => found,
-        Err(fault) => return complain(&rt, fault, variable_of(fault)),
-    };
-    let _held = match held_log(&rt, &file, &options) {
-        Ok(held) => held,
-        Err(fault) => return complain(&rt, fault, variable_of(fault)),
+    let (log, file, _held) = match opened_log(&rt, alloc, &options, asked) {
+        Ok(opened) => opened,
+        Err(status) => return status,
     };
     // The types that the log's thread takes along are known here alone.
     if let Some(file) = file {
@@ -255,44 +400,20 @@ fn main(rt: HostRuntime) -> ExitCode {
         }
         log.tell(&rt, &Event::Started(usage::VERSION.as_bytes()));
     }
-    let administration = match asked.opened(&rt, &log) {
+    let administration = match opened_administration(&rt, &log, &options, asked) {
         Ok(administration) => administration,
-        Err(fault) => return give_up(&rt, &log, fault, &options, asked),
+        Err(status) => return status,
     };
-    // What serves closes the log, whatever comes.
-    if let Some(patience) = settings.patience {
-        let parts = match open_files(&rt, alloc, &log, &options) {
-            Ok(parts) => parts,
-            Err(fault) => return give_up(&rt, &log, fault, &options, asked),
-        };
-        let reader = Attended::new(rt.reader(), &log);
-        let mut writer = io::writer(&rt);
-        let served = serve_timed(
+    match settings.patience {
+        Some(patience) => serve_with_deadline(
             &rt,
             alloc,
             &options,
-            parts,
+            asked,
             patience,
             &log,
             administration,
-            reader,
-            &mut writer,
-        );
-        return status_of_end(&rt, served, &options, asked);
+        ),
+        None => serve_without_deadline(&rt, alloc, &options, asked, &log, administration),
     }
-    let array = match open(&rt, alloc, &log, &options) {
-        Ok(array) => array,
-        Err(fault) => return give_up(&rt, &log, fault, &options, asked),
-    };
-    let served = serve(
-        &rt,
-        alloc,
-        &options,
-        array,
-        &log,
-        administration,
-        Attended::new(rt.reader(), &log),
-        &mut io::writer(&rt),
-    );
-    status_of_end(&rt, served, &options, asked)
 }
