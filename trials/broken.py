@@ -78,7 +78,7 @@ BROKEN = {
                       "    let units = how_many(place, select).min(1);\n", "clients.py quick", "FAILED    it says: Lun:1"),
     "orders": Broken(CHECKER, "trials/orders.py", "if first is None or op.start <= first]", "if first is None or op]", "orders_cases.py",
                      "WRONG taken"),
-    "chaos": Broken(AS_IT_IS, "trials/locks.py", '    ("deadline::watch", "hangs"),\n', "", "chaos.py --unproved --found",
+    "chaos": Broken(AS_IT_IS, "trials/locks.py", '    ("timed_calls::watch", "hangs"),\n', "", "chaos.py --unproved --found",
                     "a lock that the table does not have"),
     "chaos_planted": Broken(AS_IT_IS, "trials/chaos/threads.c", "    if (drawn(&own->dice) % shared->fault_in)\n", "    if (own)\n",
                             "chaos.py --planted lost_wake --seeds 3", "NOT found"),

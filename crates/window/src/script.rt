@@ -264,7 +264,7 @@ function settle(id, nodes) {
 function table(id, heads, rows) {
   const cell = (name, value, key) => { const made = make(name, typeof value === 'number' ? 'n' : '', value);
     if (key) made.dataset.key = key; return made; };
-  const isNumber = key => rows.length > 0 && typeof rows[0][key] === 'number';
+  const isNumber = key => rows.some(row => typeof row[key] === 'number');
   const titled = (title, key) => { const made = cell('th', title, key); made.scope = 'col'; if (isNumber(key)) made.className = 'n'; return made; };
   const head = make('tr', '', ...heads.map(([title, key]) => titled(title, key)));
   const body = rows.map(row => make('tr', '', ...heads.map(([, key]) => cell('td', row[key] ?? '', key))));
