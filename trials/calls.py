@@ -25,7 +25,7 @@ A model of what may be stands beside it. By that
 - a start at which a call fails says the line of that file, with status 1; nothing else ever ends the program.
 
 A process that is killed leaves in the system's memory what it wrote, so this shows no loss of power: only that the flushes
-are asked for, and told where they fail. A loss of power is tried by the proved tests of test_crashes, over devices in memory.
+are asked for, and told where they fail. A loss of power is tried by the proved tests of test_units, over devices in memory.
 
 Prints a table; ends with status 1 at the first thing that is otherwise, with all that was asked and answered up to there.
 

@@ -7,7 +7,7 @@ use std::alloc::Global;
 use std::sync::Wait;
 use std::test::*;
 use std::thread::{Threads, join};
-use test_wants::want;
+use test_connections::want;
 
 // What the worker does: a write that a lane serves, and a read of the same block by another session, which serves it itself
 // unless the lane was first. Then jobs of both units at once, of which group 2 owns the second. At last unit 0 moves to group 2, so

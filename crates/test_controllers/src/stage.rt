@@ -4,8 +4,7 @@ use crate::script::{command_of, group_of, list_of};
 use scsi_types::Group;
 use std::alloc::Global;
 use std::test::Fail;
-use test_connections::{bytes_of, lines_of};
-use test_wants::want;
+use test_connections::{bytes_of, lines_of, want};
 
 /// An array, and the hosts that use it, by their numbers.
 #[derive(Drop)]

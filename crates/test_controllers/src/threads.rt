@@ -5,7 +5,7 @@ use crate::tales::Tale;
 use scsi_types::{Command, Group, PrOutAction};
 use std::test::Fail;
 use std::thread::{Threads, join};
-use test_wants::want;
+use test_connections::want;
 
 /// So many commands a thread.
 const TIMES: u64 = 400;

@@ -1,5 +1,6 @@
-//! Tests of the pure world, of two units in memory, over its public calls: each table has rows of what happens, what the sessions
-//! hear of it, how many entries the units then have, and where the sessions' commands are.
+//! Tests of what happens in some order or other: of the pure world, of two units in memory, where each table has rows of what happens,
+//! what the sessions hear of it, how many entries the units then have, and where the sessions' commands are; and of one unit that threads
+//! share, what its sessions have seen, and what readers find on its board (`readers`).
 #![tactic(auto)]
 
 #[cfg(test)]
@@ -10,6 +11,8 @@ mod full;
 mod late;
 #[cfg(test)]
 mod moves;
+#[cfg(test)]
+mod readers;
 #[cfg(test)]
 mod run;
 #[cfg(test)]

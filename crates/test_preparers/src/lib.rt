@@ -1,12 +1,21 @@
-//! Tests of what prepares a disk and flushes it beside its device: what is not flushed and who waits for that, how much the kernel lets
-//! programs write, and preparers that cannot prepare.
+//! Tests of what prepares a disk and flushes it: what is not flushed and who waits for that, how much the kernel lets programs write,
+//! preparers that cannot prepare; and flushes of a device and beside it, where one fails or takes its time (`flushes`, `beside`). Beside
+//! them stands the order in which a registration file is written and flushed (`order`).
 #![tactic(auto)]
 
 #[cfg(test)]
 mod backlog;
 #[cfg(test)]
+mod beside;
+#[cfg(test)]
 mod ends;
 #[cfg(test)]
+mod fake;
+#[cfg(test)]
+mod flushes;
+#[cfg(test)]
 mod limits;
+#[cfg(test)]
+mod order;
 #[cfg(test)]
 mod preparers;

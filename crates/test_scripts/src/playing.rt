@@ -5,8 +5,7 @@ use crate::rows::{Row, is_row, part, spelled};
 use scsi_types::Sense;
 use std::alloc::Global;
 use std::test::Fail;
-use test_connections::lines_of;
-use test_wants::want_at;
+use test_connections::{lines_of, want_at};
 
 /// Plays rows for a number, or those behind a line of numbers for these.
 pub fn played(

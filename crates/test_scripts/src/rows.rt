@@ -35,9 +35,8 @@ use crash_blocks::Pick;
 use scsi_types::Place;
 use std::alloc::Global;
 use std::test::Fail;
-use test_connections::{RowError, Texts, bytes_of};
+use test_connections::{RowError, Texts, bytes_of, want_at};
 use test_devices::Failing;
-use test_wants::want_at;
 
 /// The TransportIDs of two ports, behind their first four bytes (SPC-4, 7.6.4.6).
 const TEXTS: Texts = &[

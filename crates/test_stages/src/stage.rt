@@ -36,9 +36,8 @@
 use crate::forms::{expanded, split};
 use std::alloc::{AllocError, Global};
 use std::test::Fail;
-use test_connections::{Host, host_texts, is_text, lines_of, pdu_of, put_number};
+use test_connections::{Host, host_texts, is_text, lines_of, pdu_of, put_number, want, want_at};
 use test_scenes::{Flushes, Place, Scene};
-use test_wants::{want, want_at};
 
 /// The hosts of a script, and the array that they reach.
 #[derive(Drop)]

@@ -6,9 +6,8 @@ use block_file::{Blocks, MemBlocks};
 use crash_blocks::Pick;
 use std::alloc::Global;
 use std::test::*;
-use test_connections::{filled, lines_of};
+use test_connections::{filled, lines_of, want_at};
 use test_scripts::{Bench, are_within, filled_by, is_row, part, played, setup_of, written_at};
-use test_wants::want_at;
 
 /// A session through the first group that was told of the power on.
 const ONE_SESSION: &str = "

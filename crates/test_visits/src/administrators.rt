@@ -11,7 +11,7 @@ use std::os::unix::net::UnixStream;
 use std::rt::Files;
 use std::test::Fail;
 use std::time::{Clock, Duration};
-use test_wants::want_at;
+use test_connections::want_at;
 
 /// So many seconds an answer may take.
 const PATIENCE: u64 = 20;

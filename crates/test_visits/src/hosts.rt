@@ -4,8 +4,7 @@ use crate::site::{PORTALS, Site};
 use std::alloc::Global;
 use std::net::{Net, SocketAddrV4, TcpListener, TcpStream};
 use std::test::Fail;
-use test_connections::{Host, host_texts, is_text, lines_of, pdu_of};
-use test_wants::{want, want_at};
+use test_connections::{Host, host_texts, is_text, lines_of, pdu_of, want, want_at};
 
 // Sends what a line spells, or compares it with what comes.
 fn obey(alloc: Global, host: &mut Host, line: &str) -> Result<(), Fail> {

@@ -16,8 +16,7 @@ use std::rt::Files;
 use std::sync::Arc;
 use std::test::Fail;
 use std::time::Clock;
-use test_connections::{Host, filled};
-use test_wants::want_at;
+use test_connections::{Host, filled, want_at};
 
 /// A folder, and in it the files of the first array, and the copies of them; and the control sockets of both arrays.
 #[derive(Drop)]

@@ -10,8 +10,7 @@ use std::net::{Net, SocketAddrV4, TcpListener, TcpStream};
 use std::process::Termination;
 use std::rt::Files;
 use std::test::Fail;
-use test_connections::{Host, bytes_of};
-use test_wants::want_at;
+use test_connections::{Host, bytes_of, want_at};
 
 // The name of the host that registers.
 const REGISTRANT: &[u8] = b"iqn.2000-01.test:a";

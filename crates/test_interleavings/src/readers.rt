@@ -11,7 +11,7 @@ use std::sync::Wait;
 use std::test::*;
 use std::thread::{Threads, join};
 use test_memory::{Opens, new_unit};
-use test_wants::want;
+use test_connections::want;
 use unit_history::{NewUnit, Opened, Pass, Seat, SharedUnit};
 use unit_sequence::ArrayNaming;
 

@@ -1,6 +1,6 @@
 use Rattle.block_file.specs.Cut.{cut}
 use Rattle.unit_control.specs.State.{state_of}
-use Rattle.test_readers.proofs.readers.two_sessions_merge_beside_as_many_readers_as_there_may_be.Given as goal
+use Rattle.test_interleavings.proofs.readers.two_sessions_merge_beside_as_many_readers_as_there_may_be.Given as goal
 
 abbrev pub ghosts-share : goal.ghosts-share
 ghosts-share g a = record {

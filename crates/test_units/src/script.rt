@@ -3,9 +3,8 @@ use crate::calls::{Call, Does, Reach, picked, put_calls, values_of};
 use crash_blocks::Pick;
 use std::alloc::Global;
 use std::test::Fail;
-use test_connections::lines_of;
+use test_connections::{lines_of, want_at};
 use test_scripts::{Setup, is_row, part, setup_of};
-use test_wants::want_at;
 
 // Whether a line says what no stop looks at.
 fn is_passed_over(line: &str) -> bool {

@@ -4,8 +4,7 @@ use crate::power::lose;
 use crate::script::{Device, Script, Stop};
 use std::alloc::Global;
 use std::test::*;
-use test_connections::filled;
-use test_wants::want_at;
+use test_connections::{filled, want_at};
 
 // Scripts, and where each loses the power: at each call of a device from this one on and behind the last, so many times.
 fn scripts() -> &'static str {

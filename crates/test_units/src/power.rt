@@ -4,7 +4,7 @@ use crash_blocks::Pick;
 use std::alloc::Global;
 use std::test::Fail;
 use test_scripts::{Bench, Row, Setup, make, played};
-use test_wants::want_at;
+use test_connections::want_at;
 
 /// What a crash leaves: of each block the value that these pick.
 const PICKS: [Pick; 4] = [
