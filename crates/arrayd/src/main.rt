@@ -21,11 +21,8 @@ use std::env::Env;
 use std::fs::File;
 use std::net::{Net, TcpListener, TcpStream};
 use std::process::ExitCode;
-use std::random::RandomSource;
 use std::rt::Files;
-use std::sync::Wait;
-use std::thread::Threads;
-use std::time::{Clock, Duration};
+use std::time::Clock;
 use std::{env, io};
 
 // The program's words, its own name first.
@@ -284,99 +281,6 @@ fn opened_administration<'a>(
     }
 }
 
-// Opens the files of the array and serves it, each call on them ending as the system ends it: the exit status. What serves closes the
-// log, whatever comes.
-fn serve_without_deadline<
-    R: Threads
-        + Wait
-        + Clock
-        + Files<File = File>
-        + Net<Listener = TcpListener, Stream = TcpStream>
-        + RandomSource
-        + Input
-        + Print
-        + Eprint
-        + Clone
-        + Drop
-        + Send
-        + Sync
-        + 'static,
->(
-    rt: &R,
-    alloc: Global,
-    options: &Options<'_>,
-    asked: &Asked,
-    log: &Log,
-    administration: Option<Administration<'_>>,
-) -> ExitCode
-    requires few { length options.now.paths.items ≤ MAX_UNITS }
-{
-    let array = match open(rt, alloc, log, options) {
-        Ok(array) => array,
-        Err(fault) => return give_up(rt, log, fault, options, asked),
-    };
-    let reader = Attended::new(rt.reader(), log);
-    let mut writer = io::writer(rt);
-    let served = serve(
-        rt,
-        alloc,
-        options,
-        array,
-        log,
-        administration,
-        reader,
-        &mut writer,
-    );
-    status_of_end(rt, served, options, asked)
-}
-
-// The same, each call on them taking so long at most.
-fn serve_with_deadline<
-    R: Threads
-        + Wait
-        + Clock
-        + Files<File = File>
-        + Net<Listener = TcpListener, Stream = TcpStream>
-        + RandomSource
-        + Input
-        + Print
-        + Eprint
-        + Clone
-        + Drop
-        + Send
-        + Sync
-        + 'static,
->(
-    rt: &R,
-    alloc: Global,
-    options: &Options<'_>,
-    asked: &Asked,
-    patience: Duration,
-    log: &Log,
-    administration: Option<Administration<'_>>,
-) -> ExitCode
-    requires few { length options.now.paths.items ≤ MAX_UNITS }
-{
-    let parts = match open_files(rt, alloc, log, options) {
-        Ok(parts) => parts,
-        Err(fault) => return give_up(rt, log, fault, options, asked),
-    };
-    let reader = Attended::new(rt.reader(), log);
-    let mut writer = io::writer(rt);
-    let served = serve_timed(
-        rt,
-        alloc,
-        options,
-        parts,
-        patience,
-        log,
-        administration,
-        reader,
-        &mut writer,
-    );
-    status_of_end(rt, served, options, asked)
-}
-
 fn main(rt: HostRuntime) -> ExitCode {
     let _standard = standard::taken(&rt);
     let alloc = rt.alloc();
@@ -393,7 +297,7 @@ fn main(rt: HostRuntime) -> ExitCode {
         Ok(opened) => opened,
         Err(status) => return status,
     };
-    // The types that the log's thread takes along are known here alone.
+    // The types that threads take along are known here alone.
     if let Some(file) = file {
         if start::<HostRuntime, LogFile<HostRuntime>>(&rt, alloc, &log, file).is_err() {
             return complain(&rt, Fault::NoMemory, "");
@@ -404,16 +308,40 @@ fn main(rt: HostRuntime) -> ExitCode {
         Ok(administration) => administration,
         Err(status) => return status,
     };
-    match settings.patience {
-        Some(patience) => serve_with_deadline(
+    // What serves closes the log, whatever comes.
+    if let Some(patience) = settings.patience {
+        let parts = match open_files(&rt, alloc, &log, &options) {
+            Ok(parts) => parts,
+            Err(fault) => return give_up(&rt, &log, fault, &options, asked),
+        };
+        let reader = Attended::new(rt.reader(), &log);
+        let mut writer = io::writer(&rt);
+        let served = serve_timed(
             &rt,
             alloc,
             &options,
-            asked,
+            parts,
             patience,
             &log,
             administration,
-        ),
-        None => serve_without_deadline(&rt, alloc, &options, asked, &log, administration),
+            reader,
+            &mut writer,
+        );
+        return status_of_end(&rt, served, &options, asked);
     }
+    let array = match open(&rt, alloc, &log, &options) {
+        Ok(array) => array,
+        Err(fault) => return give_up(&rt, &log, fault, &options, asked),
+    };
+    let served = serve(
+        &rt,
+        alloc,
+        &options,
+        array,
+        &log,
+        administration,
+        Attended::new(rt.reader(), &log),
+        &mut io::writer(&rt),
+    );
+    status_of_end(&rt, served, &options, asked)
 }
