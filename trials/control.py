@@ -578,7 +578,9 @@ def console_of_the_service(folder):
         for line, numbers in (("down 3", "controllers are 1 and 2"), ("up", "controllers are 1 and 2"), ("keys 9", "units are 0 to 7"),
                               ("end 99999", "a TSIH is 0 to 65535")):
             is_so(line, (lambda end: (end.returncode, end.stderr))(ask(*line.split())), (2, f"arrayd-console: {line}: {numbers}\n"))
-        is_so("no such line", (lambda end: (end.returncode, "usage: arrayd-console" in end.stderr))(ask("no")), (2, True))
+        for line in ("no", "status x", "quit now"):
+            is_so(line, (lambda end: (end.returncode, end.stderr))(ask(*line.split())),
+                  (2, f"arrayd-console: {line}: no such line; `help` in its place tells which there are\n"))
         is_so("quit", (lambda end: (end.returncode, end.stdout))(ask("quit")), (0, ""))
         is_so("it has ended", program.poll(), 0)
         is_so("no array", ask("sessions").returncode, 3)

@@ -10,7 +10,7 @@ use crate::portals::{self, Portal, Ports};
 use array_administration::{
     Administration, Operations, Sockets, answer, console, control_path, open,
 };
-use array_files::{OpenArray, Parts, start_timed};
+use array_files::{OpenArray, Parts, name_units, start_timed};
 use array_operations::{AdministeredServer, Operated};
 use array_units::Units;
 use block_file::{Blocks, Opener};
@@ -67,6 +67,18 @@ fn open_portals<R: Net<Listener = TcpListener, Stream = TcpStream> + Clock>(
         log: log.share()?,
     };
     Ok((portals, found))
+}
+
+// The same, and from then on each disk is this array's unit, and no other one.
+fn open_named<R: Net<Listener = TcpListener, Stream = TcpStream> + Clock + Files<File = File>>(
+    rt: &R,
+    alloc: Global,
+    options: &Options<'_>,
+    log: &Log,
+) -> Result<(Vec<Portal>, Found), Fault> {
+    let opened = open_portals(rt, alloc, options, log)?;
+    name_units(rt, alloc, log, options)?;
+    Ok(opened)
 }
 
 // The lanes of both controllers' desks.
@@ -261,7 +273,7 @@ fn serve_named<
     let path = control_path(&administration);
     let ended = match open(rt, log, administration) {
         Ok(sockets) => {
-            let ended = match open_portals(rt, alloc, options, log) {
+            let ended = match open_named(rt, alloc, options, log) {
                 Ok((portals, found)) => Served::<N, B, F, O, Prepared<P, N>, R>::run(
                     rt, alloc, options, portals, found, units, gate, sockets, reader, writer,
                 ),

@@ -211,11 +211,11 @@ fn name_of(place: Place) -> UnitName {
 fn told_unit(
     alloc: Global,
     log: &Log,
-    place: Place,
+    name: UnitName,
     path: &str,
     found: Result<(), UnitFileFault>,
 ) -> Result<(), Fault> {
-    let (unit, array) = (place.unit, place.array);
+    let UnitName { unit, array } = name;
     match found {
         Ok(()) => Ok(()),
         Err(UnitFileFault::NoMemory) => Err(Fault::NoMemory),
@@ -231,7 +231,7 @@ fn told_unit(
 }
 
 /// Looks whether a disk of the array that the words ask for was served as another unit, before any file is made: words that are refused
-/// leave nothing behind by which the right ones would be refused.
+/// leave nothing behind by which the right ones would be refused. So disks are named last of all, by `name_units`.
 pub(crate) fn look_at_units<R: Files<File = File>>(
     rt: &R,
     alloc: Global,
@@ -243,7 +243,26 @@ pub(crate) fn look_at_units<R: Files<File = File>>(
     for unit in 0..options.paths.len() as u8 {
         let (place, path) = place_of(options, unit);
         let found = look_as(rt, alloc, path, name_of(place));
-        told_unit(alloc, log, place, path, found)?;
+        told_unit(alloc, log, name_of(place), path, found)?;
+    }
+    Ok(())
+}
+
+/// Sees to it that each disk of the array that the words ask for is served as its unit, and as no other one, from now on: where nothing is
+/// left for which the start may be refused.
+pub fn name_units<R: Files<File = File>>(
+    rt: &R,
+    alloc: Global,
+    log: &Log,
+    options: &Options<'_>,
+) -> Result<(), Fault> {
+    let mut unit = 0u8;
+    for path in options.paths.as_slice() {
+        let array = options.array;
+        let name = UnitName { unit, array };
+        let kept = open_as(rt, alloc, path, name);
+        told_unit(alloc, log, name, path, kept)?;
+        unit = unit.saturating_add(1);
     }
     Ok(())
 }
@@ -255,23 +274,18 @@ fn unnamed(log: &Log, unit: u8, path: &str, error: u32) -> Fault {
     Fault::CannotUseUnit(unit, "the file .unit beside it cannot be used", error)
 }
 
-// The registration file of a unit, and its record. Its disk is this unit from then on.
+// The registration file of a unit, and its record.
 pub(crate) fn open_record<R: Files<File = File> + Clone + Drop>(
     rt: &R,
     alloc: Global,
     log: &Log,
-    place: Place,
+    unit: u8,
     path: &str,
 ) -> Result<Registrations<R>, Fault> {
-    let unit = place.unit;
     let file_log = file_log(log, unit, Part::Registrations)?;
     let mine = rt.clone()?;
     match open_registrations(mine, alloc, path, Some(file_log)) {
-        Ok(found) => {
-            let kept = open_as(rt, alloc, path, name_of(place));
-            told_unit(alloc, log, place, path, kept)?;
-            Ok(found)
-        }
+        Ok(found) => Ok(found),
         Err(fault) => {
             let cause = registrations_cause(fault);
             Err(refuse(log, unit, Part::Registrations, path, cause))
@@ -305,7 +319,7 @@ fn open_unit<R: Files<File = File> + Clock + Wait + Clone + Drop>(
 {
     let mut disk = open_blocks(rt, alloc, log, place.unit, path)?;
     let preparer = open_preparer(rt, alloc, log, place.unit, path, &mut disk.blocks)?;
-    let found = open_record(rt, alloc, log, place, path)?;
+    let found = open_record(rt, alloc, log, place.unit, path)?;
     laws::nobody_is_attached_at_first();
     let unit = Unit::open(
         alloc,

@@ -5,5 +5,5 @@
 mod disks;
 mod timed;
 
-pub use disks::{FileArray, OpenArray, open};
+pub use disks::{FileArray, OpenArray, name_units, open};
 pub use timed::{FileParts, Parts, TimedArray, open_files, start_timed};

@@ -74,7 +74,7 @@ fn open_parts<R: Files<File = File> + Clock + Wait + Clone + Drop>(
 ) -> Result<FileParts<R>, Fault> {
     let mut disk = open_blocks(rt, alloc, log, place.unit, path)?;
     let preparer = open_preparer(rt, alloc, log, place.unit, path, &mut disk.blocks)?;
-    let found = open_record(rt, alloc, log, place, path)?;
+    let found = open_record(rt, alloc, log, place.unit, path)?;
     let file = found.file.close();
     Ok(Parts {
         place,

@@ -251,9 +251,11 @@ impl<R: Wait + Clock + Drop, P: Preparer> Preparer for DeadlinedPreparer<R, P> {
     }
 
     // To look costs the way to a thread that sleeps. So while the disk counts as fast, it is looked at only where the device has kept
-    // somebody waiting.
+    // somebody waiting: now and then, and at once where a read has taken long.
     fn wants(&self, serial: u64) -> bool {
-        self.preparer.wants_hints() || self.preparer.wants(serial) && self.watch.has_slept()
+        self.preparer.wants_hints()
+            || self.watch.has_lagged()
+            || self.preparer.wants(serial) && self.watch.has_slept()
     }
 
     fn fetch(&self, first: u64, blocks: u16) {

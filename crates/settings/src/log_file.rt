@@ -241,9 +241,13 @@ impl<R: Files<File = File> + Drop> LogFile<R> {
     }
 }
 
-impl<R: Files<File = File> + Drop> Page for LogFile<R> {
+impl<R: Files<File = File> + AllocGlobal + Drop> Page for LogFile<R> {
+    // Its name may lead to another file by now, of which the same is asked as at the start. A disk that is served is locked.
     fn open(&self) -> Option<File> {
-        self.opened().ok()
+        if is_unfit(&self.rt, self.path()) {
+            return None;
+        }
+        self.held(&[]).ok()
     }
 }
 

@@ -10,8 +10,8 @@ use std::marker::Brand;
 use std::sync::Wait;
 use std::test::*;
 use std::thread::{Threads, join};
-use test_memory::{Opens, new_unit};
 use test_connections::want;
+use test_memory::{Opens, new_unit};
 use unit_history::{NewUnit, Opened, Pass, Seat, SharedUnit};
 use unit_sequence::ArrayNaming;
 

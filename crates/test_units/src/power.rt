@@ -3,8 +3,8 @@ use crate::script::{Device, Script, Stop};
 use crash_blocks::Pick;
 use std::alloc::Global;
 use std::test::Fail;
-use test_scripts::{Bench, Row, Setup, make, played};
 use test_connections::want_at;
+use test_scripts::{Bench, Row, Setup, make, played};
 
 /// What a crash leaves: of each block the value that these pick.
 const PICKS: [Pick; 4] = [

@@ -10,7 +10,7 @@ use std::alloc::Global;
 use std::sync::atomic::Ordering;
 use std::sync::{Arc, Wait};
 use std::thread::{Builder, JoinHandle, Threads};
-use std::time::Clock;
+use std::time::{Clock, Duration};
 use std::{io, mem};
 
 /// So many bytes has the stack of the thread.
@@ -20,6 +20,9 @@ const STACK: usize = 256 * 1024;
 const FOR_ANSWERS: u32 = 10_000;
 
 pub const FOR_REQUESTS: u32 = 40_000;
+
+/// A read for which one has slept so many microseconds came from a slow disk.
+const LONG: u64 = 500;
 
 /// The right to ask once, under this number.
 #[derive(Drop)]
@@ -147,16 +150,28 @@ impl<R: Wait + Clock + Drop, E: Asked> Asker<R, E> {
         self.request = Some(request);
     }
 
+    // Tells of a read for which one has slept since then, where that was long.
+    fn note_long(&self, call: Call, began: Duration) {
+        if let Call::Read = call
+            && let Ok(now) = self.rt.monotonic()
+            && now.saturating_sub(began) >= Duration::from_micros(LONG)
+        {
+            self.watch.lag();
+        }
+    }
+
     // Whether it is answered in time, while one sleeps. Else it hangs, from now on until it comes back.
     fn is_done(&mut self, serial: u64, call: Call) -> bool
         ensures known { self.new.end.seat.me ≡ self.old.end.seat.me }
         ensures same { (self.new.request ≡ self.old.request) × (self.new.asked ≡ self.old.asked) }
     {
         self.watch.sleep();
+        let began = self.rt.monotonic().unwrap_or(Duration::MAX);
         if self
             .end
             .is_answered_in_time(&self.rt, &self.watch, serial, call)
         {
+            self.note_long(call, began);
             return true;
         }
         self.watch.hang(&self.rt, call);

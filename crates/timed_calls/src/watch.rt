@@ -30,8 +30,9 @@ pub struct Watch {
     node: Node,
     is_hung: AtomicBool,
     hangs: Mutex<Hangs>,
-    // Whether a call of late took so long that whoever asked slept.
+    // Whether a call of late took so long that whoever asked slept, and whether a read took so long that it came from a slow disk.
     has_slept: AtomicBool,
+    has_lagged: AtomicBool,
     // How many writes have come back.
     writes: AtomicU64,
     // How many bytes the file was asked to write, how many of them a flush has made last, and how many flushes were done.
@@ -51,6 +52,7 @@ impl Drop for Watch {
             is_hung: _,
             hangs: _,
             has_slept: _,
+            has_lagged: _,
             writes: _,
             written: _,
             flushed: _,
@@ -76,6 +78,7 @@ impl Watch {
                 since: None,
             }),
             has_slept: AtomicBool::new(false),
+            has_lagged: AtomicBool::new(false),
             writes: AtomicU64::new(0),
             written: AtomicU64::new(0),
             flushed: AtomicU64::new(0),
@@ -159,6 +162,16 @@ impl Watch {
     /// Whether a call did since this was asked last.
     pub fn has_slept(&self) -> bool {
         self.has_slept.swap(false, Ordering::Relaxed)
+    }
+
+    /// A read took so long that it came from a slow disk.
+    pub fn lag(&self) {
+        self.has_lagged.store(true, Ordering::Relaxed);
+    }
+
+    /// Whether one did since this was asked last.
+    pub fn has_lagged(&self) -> bool {
+        self.has_lagged.swap(false, Ordering::Relaxed)
     }
 
     /// This call has taken longer. Until it comes back, no other one is made.
