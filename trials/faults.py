@@ -156,6 +156,35 @@ def quit_beside_a_session():
             expect("quit with sessions open", array.quit(20), 0)
 
 
+def failed_starts():
+    """A start that fails leaves no disk as a unit, so that other words are not refused for its sake; one that serves does."""
+    for name in ("third", "fourth"):
+        made(name, 16)
+    refused(["fourth", "third", "nosuch"], "cannot use unit 2", "nosuch")
+    refused(["--host", "192.0.2.1", "fourth", "third"], "cannot listen at controller 1", "192.0.2.1")
+    with Array(["third", "fourth"]) as array:
+        expect("quit", array.quit(20), 0)
+    status, _, errors = run(["fourth", "third"])
+    expect("another order", (status, errors), (2, "arrayd: unit 0 of array 1 is unit 1 of array 1: fourth\n"))
+
+
+def log_that_leads_to_a_disk():
+    """A log whose name comes to lead to a disk, or to a file beside one, is written there no more."""
+    for name in ("disk", "disk.reg", "away/served"):
+        with Array(["disk"], log="turned") as array:
+            os.rename("turned", "turned.1")
+            os.symlink(name, "turned")
+            before = in_files() | {name: open(name, "rb").read()}
+            with Session(*array.portal(1), TARGET) as session:
+                session.ready(0)
+            expect("quit", array.quit(20), 0)
+            for one, text in before.items():
+                with open(one, "rb") as file:
+                    expect(f"a log that leads to {name}: {one}", one == "turned.1" or file.read() == text, True)
+        os.remove("turned")
+        os.remove("turned.1")
+
+
 def closed_descriptors():
     """A program that was started without its standard output writes its lines nowhere, and so not into a disk."""
     kept = {}
@@ -192,6 +221,8 @@ def main():
         block_device("device")
         tells_of_itself()
         closed_descriptors()
+        failed_starts()
+        log_that_leads_to_a_disk()
         for words, fault, named in ROWS:
             refused(words.split(), fault, named)
         for name in NAMES:

@@ -118,6 +118,24 @@ def flushes_that_wait_for_each_other(folder):
 
 
 @case
+def many_readers_of_a_slow_disk(folder):
+    """A page takes 10 ms, and sixteen hosts read here and there: side by side from the first reads on, and not one behind the other."""
+    with Disk(folder, 20, SLOW_PAGE=10_000) as disk:
+        login().ready(0)
+        reads = [0] * 16
+
+        def work(session, number):
+            session.read(0, (number * 20011 + reads[number] * 37) * 8 % BLOCKS, 8)
+            reads[number] += 1
+
+        end_well(*side_by_side(len(reads), work, 2))
+        print(f"      {sum(reads)} reads in 2 s")
+        if sum(reads) < 800:
+            raise Wrong("they are read one behind the other")
+        disk.quits()
+
+
+@case
 def process_that_stands_still(folder):
     """The process stands still for 3 s again and again, under load; its deadline is 2 s."""
     with Disk(folder, 2, SLOW_FLUSH=50_000) as disk:
