@@ -169,9 +169,9 @@ impl Watch {
         self.has_lagged.store(true, Ordering::Relaxed);
     }
 
-    /// Whether one did since this was asked last.
+    /// Whether one did since this was asked last. Each READ asks, so that mostly nothing is written.
     pub fn has_lagged(&self) -> bool {
-        self.has_lagged.swap(false, Ordering::Relaxed)
+        self.has_lagged.load(Ordering::Relaxed) && self.has_lagged.swap(false, Ordering::Relaxed)
     }
 
     /// This call has taken longer. Until it comes back, no other one is made.
