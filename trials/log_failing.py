@@ -170,9 +170,10 @@ def each_cause(folder, log, deadline):
     fail = calls(folder)
     more = dict(fail.environment, **deadline)
     path = disk(folder)
-    # the log's file takes the first one, and does without where it has none
-    fail.let("flock", errno.ENOLCK, times=2)
+    # the log's file wants one each time that it is opened, and does without where it has none
+    fail.let("flock", errno.ENOLCK, times=failing.EVER)
     is_so("no lock", ended([path], log=log.path, more=more), (1, "arrayd: cannot use unit 0"))
+    fail.stop()
     log.find("cannot_use", unit="0", file="disk", disk=path, why="not_locked")
     unusable = (1, "arrayd: cannot use registration file 0")
     fail.let("rename", errno.EROFS)
