@@ -506,6 +506,23 @@ def commands_that_wait_for_each_other(folder):
 
 
 @case
+def disk_that_answers_late(folder):
+    """Eight sessions write at once to a disk that takes 2.5 seconds for each: the last one waits longer than where a disk hangs."""
+    failing = Failing(folder)
+    with Array([made(f"{folder}/disk", 4096)], more={"ARRAYD_HTTP": f"127.0.0.1:{AT}", **failing.environment}) as array:
+        hosts = [host(isid=0x400001370000 + at) for at in range(8)]
+        failing.slow("pwrite", 2.5)
+        tags = [one.submit(0, [0x2A, 0, 0, 0, 0, at, 0, 0, 1, 0], out=bytes(512)) for at, one in enumerate(hosts)]
+        is_so("it waits", until(lambda: value(metrics(), "arrayd_unit_oldest_command_seconds", unit=0) >= 10.5, seconds=15), True)
+        is_so("health", wrong(0, "answers_late"), "answers late")
+        is_so("it does not hang", value(metrics(), "arrayd_unit_trouble", unit=0, trouble="hangs"), 0)
+        failing.slow("pwrite", 0)
+        is_so("then", {end_of(one.wait(tag)) for one, tag in zip(hosts, tags)}, {GOOD})
+        is_so("well again", (get("/health")[0], status()["units"][0]["health"]), (200, "well"))
+        array.quit()
+
+
+@case
 def log_that_cannot_be_written(folder):
     with window(folder, log=f"{folder}/none/log") as array:
         session = host()

@@ -122,6 +122,7 @@ fn unit_of(
     let oldest = seen.oldest.get(place).copied().unwrap_or(0);
     let signs = Signs {
         oldest,
+        silent: seen.silent.get(place).copied().unwrap_or(0),
         seen: Some(happened),
     };
     Ok(UnitView {

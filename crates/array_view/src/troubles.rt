@@ -7,7 +7,7 @@ use meters::{CALLS_IN_ORDER, Failures, UnitHappenings};
 use std::alloc::{AllocError, Global};
 use std::time::Duration;
 
-/// A command that is served for so many microseconds waits for a disk that hangs.
+/// A command that is served for so many microseconds waits for a disk that hangs, or that answers late.
 const HANGS: u64 = 10_000_000;
 
 /// One that is served for so many waits for a disk that is slow.
@@ -41,7 +41,7 @@ const UNNAMED: &str = "other";
 /// What may be wrong with a unit.
 #[derive(Clone, Copy)]
 pub enum Trouble {
-    /// A call on its disk took longer than the deadline, or a command waits for it.
+    /// A call on its disk took longer than the deadline, or a command waits for it and none is answered.
     Hangs,
     /// A flush of its disk failed.
     FlushesLost,
@@ -51,6 +51,8 @@ pub enum Trouble {
     SavesHang,
     /// A registration could not be saved, and none was since.
     Unsaved,
+    /// A command waits as long as for a disk that hangs, while others are answered.
+    AnswersLate,
     /// A command waits longer for its disk than one should.
     Slow,
     /// A file of it became longer.
@@ -58,12 +60,13 @@ pub enum Trouble {
 }
 
 /// All of them, the worst first.
-const ALL: [Trouble; 7] = [
+const ALL: [Trouble; 8] = [
     Trouble::Hangs,
     Trouble::FlushesLost,
     Trouble::CallsFailed,
     Trouble::SavesHang,
     Trouble::Unsaved,
+    Trouble::AnswersLate,
     Trouble::Slow,
     Trouble::Grew,
 ];
@@ -77,6 +80,7 @@ impl Trouble {
             Trouble::CallsFailed => "calls_failed",
             Trouble::SavesHang => "registrations_hang",
             Trouble::Unsaved => "registrations_not_saved",
+            Trouble::AnswersLate => "answers_late",
             Trouble::Slow => "slow",
             Trouble::Grew => "length_changed",
         }
@@ -90,6 +94,7 @@ impl Trouble {
             Trouble::CallsFailed => "calls on it fail",
             Trouble::SavesHang => "well, but its registration file hangs",
             Trouble::Unsaved => "well, but registrations cannot be saved",
+            Trouble::AnswersLate => "answers late",
             Trouble::Slow => "slow",
             Trouble::Grew => "well, but longer than at the start",
         }
@@ -112,6 +117,10 @@ impl Trouble {
                 and writes go on.",
             ),
             Trouble::Unsaved => Some(unsaved_sentence(culprit)),
+            Trouble::AnswersLate => Some(
+                "A command waits for ten seconds and more, while others are answered: hosts ask more of a disk than it does, or one place \
+                of it hangs.",
+            ),
             Trouble::Slow | Trouble::Grew => None,
         }
     }
@@ -128,7 +137,7 @@ impl Trouble {
             }
             Trouble::SavesHang => is_hung && failure.is_now && failure.file == REGISTRATIONS,
             Trouble::Unsaved => failure.is_now && failure.file == REGISTRATIONS && !is_hung,
-            Trouble::Slow | Trouble::Grew => false,
+            Trouble::AnswersLate | Trouble::Slow | Trouble::Grew => false,
         }
     }
 }
@@ -178,6 +187,8 @@ fn unsaved_sentence(culprit: Option<&FailureView>) -> &'static str {
 pub struct Signs<'a> {
     /// For how many microseconds its oldest command is served.
     pub oldest: u64,
+    /// For how many none was answered.
+    pub silent: u64,
     /// What was counted of it, where it was.
     pub seen: Option<&'a UnitHappenings>,
 }
@@ -209,7 +220,7 @@ impl Signs<'_> {
             Trouble::CallsFailed => any_now(&seen.disk, FLUSHES),
             Trouble::SavesHang => seen.registrations_hung.is_now,
             Trouble::Unsaved => any_now(&seen.registrations, seen.registrations.len()),
-            Trouble::Slow => false,
+            Trouble::AnswersLate | Trouble::Slow => false,
             Trouble::Grew => seen.grew != 0,
         }
     }
@@ -217,7 +228,8 @@ impl Signs<'_> {
     // Whether this is so.
     fn show(&self, trouble: Trouble) -> bool {
         let is_long = match trouble {
-            Trouble::Hangs => self.oldest >= HANGS,
+            Trouble::Hangs => self.oldest >= HANGS && self.silent >= HANGS,
+            Trouble::AnswersLate => self.oldest >= HANGS && self.silent < HANGS,
             Trouble::Slow => self.oldest >= SLOW_COMMAND && self.oldest < HANGS,
             _ => false,
         };

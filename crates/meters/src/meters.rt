@@ -36,6 +36,8 @@ struct Meter {
     // The command that is served now: when it began, in microseconds of the clock that never goes back, times 256, and its unit; 0
     // between commands.
     serving: AtomicU64,
+    // When its last command was answered, and at which unit, likewise; 0 before the first one.
+    answered: AtomicU64,
     shown: Mutex<Shown>,
 }
 
@@ -103,6 +105,8 @@ pub struct Seen {
     pub counts: Vec<Counts>,
     /// For how many microseconds the oldest command is served at each unit.
     pub oldest: Vec<u64>,
+    /// For how many microseconds no command was answered at each unit, as far as the sessions that live tell; `u64::MAX`, where none was.
+    pub silent: Vec<u64>,
     pub happened: Happenings,
 }
 
@@ -144,20 +148,56 @@ fn blank_sheets(alloc: Global, count: usize) -> Result<Vec<Sheet>, AllocError> {
     Ok(sheets)
 }
 
-// What is seen of each session, and for how long the oldest command is served at each unit.
+// What is seen of each session.
 fn seen_of<R: Wait>(
     rt: &R,
     alloc: Global,
     live: &[Arc<Meter, Global>],
     now: u64,
-    oldest: &mut [u64],
 ) -> Result<Vec<SessionSeen>, AllocError> {
     let mut sessions = Vec::with_capacity(alloc, live.len())?;
     for meter in live {
-        meter.age(now, oldest);
         sessions.push(meter.seen(rt, now)?)?;
     }
     Ok(sessions)
+}
+
+// Notes for how long the oldest command is served at each unit, and for how long none was answered.
+fn note_ages(live: &[Arc<Meter, Global>], now: u64, oldest: &mut [u64], silent: &mut [u64]) {
+    for meter in live {
+        note_longest(oldest, &meter.serving, now);
+        note_shortest(silent, &meter.answered, now);
+    }
+}
+
+// How long ago this moment was, and the place of its unit; nothing where there is none.
+fn ago(moment: &AtomicU64, now: u64) -> Option<(u64, usize)> {
+    let moment = moment.load(Ordering::Relaxed);
+    if moment == 0 {
+        return None;
+    }
+    Some((
+        now.saturating_sub(moment / UNITS),
+        (moment % UNITS) as usize,
+    ))
+}
+
+// Notes how long ago this moment was, where that is the longest of its unit.
+fn note_longest(times: &mut [u64], moment: &AtomicU64, now: u64) {
+    if let Some((time, unit)) = ago(moment, now)
+        && let Some(longest) = times.get_mut(unit)
+    {
+        *longest = (*longest).max(time);
+    }
+}
+
+// The same, where it is the shortest.
+fn note_shortest(times: &mut [u64], moment: &AtomicU64, now: u64) {
+    if let Some((time, unit)) = ago(moment, now)
+        && let Some(shortest) = times.get_mut(unit)
+    {
+        *shortest = (*shortest).min(time);
+    }
 }
 
 // Adds what a session that came by a group with this tag counted at each unit to the counts of all.
@@ -182,6 +222,11 @@ pub fn clock(rt: &impl Clock) -> u64 {
     micros(rt.monotonic().unwrap_or(Duration::ZERO)).max(1)
 }
 
+// A moment of the clock that never goes back, and a unit, in one number.
+fn moment(now: u64, unit: u8) -> u64 {
+    now.wrapping_mul(UNITS) | u64::from(unit)
+}
+
 impl Sheet {
     // The answers that wait leave, so long after the last byte of their commands.
     fn settle(&mut self, took: u64) {
@@ -202,8 +247,9 @@ impl Hand {
     /// A command of a unit begins. It may have waited for others that came with it.
     pub fn begin(&mut self, unit: u8) {
         let now = self.ticks.load(Ordering::Relaxed).max(self.came);
-        let serving = now.wrapping_mul(UNITS) | u64::from(unit);
-        self.meter.serving.store(serving, Ordering::Relaxed);
+        self.meter
+            .serving
+            .store(moment(now, unit), Ordering::Relaxed);
     }
 
     /// The command has ended: it was answered, or none was.
@@ -216,6 +262,10 @@ impl Hand {
             sheet.waiting.add(served.operation);
             self.last = Some(served.operation);
             self.is_waiting = true;
+            let now = self.ticks.load(Ordering::Relaxed).max(self.came);
+            self.meter
+                .answered
+                .store(moment(now, unit), Ordering::Relaxed);
         }
     }
 
@@ -271,17 +321,6 @@ impl Meter {
             commands,
         })
     }
-
-    // Notes for how long its command is served at its unit, where that is the longest.
-    fn age(&self, now: u64, oldest: &mut [u64]) {
-        let serving = self.serving.load(Ordering::Relaxed);
-        let (began, unit) = (serving / UNITS, serving % UNITS);
-        if serving != 0
-            && let Some(longest) = oldest.get_mut(unit as usize)
-        {
-            *longest = (*longest).max(now.saturating_sub(began));
-        }
-    }
 }
 
 impl Book {
@@ -296,6 +335,7 @@ impl Book {
             number: self.begun,
             who,
             serving: AtomicU64::new(0),
+            answered: AtomicU64::new(0),
             shown: Mutex::new(shown),
         };
         let meter = Arc::new(alloc, meter)?;
@@ -474,11 +514,13 @@ impl Meters {
         let now = micros(now);
         let (live, counts) = self.book.lock(rt).sum(rt, alloc)?;
         let mut oldest = vec![in alloc; 0; self.units]?;
-        let sessions = seen_of(rt, alloc, &live, now, &mut oldest)?;
+        let mut silent = vec![in alloc; u64::MAX; self.units]?;
+        note_ages(&live, now, &mut oldest, &mut silent);
         Ok(Seen {
-            sessions,
+            sessions: seen_of(rt, alloc, &live, now)?,
             counts,
             oldest,
+            silent,
             happened: self.happened.seen(alloc)?,
         })
     }
