@@ -1,3 +1,5 @@
+use Rattle.std.proofs.Common.{arith}
+use Rattle.std.proofs.lemmas.Grind.{moves}
 use Rattle.unit_control.proofs.Works.{compare_worked, compare_flushed}
 use Rattle.unit_control.proofs.WorkLoss.{compare_left, flushed_left, left_then, unwritten_left}
 use Rattle.unit_control.proofs.medium.compare.Goals as goal
@@ -29,3 +31,15 @@ returns-in_default-clause-left g c = λ h.
     (e.equal h) (e.differs h)
     (unwritten_left _ _ _ _ _ _ _ c.compare_and_write.result (e.untouched h) (e.stop_unwritten h))
     (record { crash = e.crash h; stop = e.stop h })
+
+pub returns-in-Done-clause-failures : goal.returns-in-Done-clause-failures
+returns-in-Done-clause-failures g c = grind (arith, moves) steps 2000000
+
+pub returns-in-Done-clause-failed_reads : goal.returns-in-Done-clause-failed_reads
+returns-in-Done-clause-failed_reads g c = grind (arith, moves) steps 2000000
+
+pub returns-in-Done-clause-failed_writes : goal.returns-in-Done-clause-failed_writes
+returns-in-Done-clause-failed_writes g c = grind (arith, moves) steps 2000000
+
+pub returns-in_default-2 : goal.returns-in_default-2
+returns-in_default-2 g c = grind (arith, moves) steps 2000000

@@ -1,4 +1,5 @@
-use Rattle.std.proofs.Common.{◌≡◌, refl}
+use Rattle.std.proofs.lemmas.Grind.{elements}
+use Rattle.std.proofs.Common.{◌≡◌, refl, arith}
 use Rattle.unit_control.specs.Places.{IsPlaceOf}
 use Rattle.unit_control.specs.Sessions.{report_first, told}
 use Rattle.unit_control.proofs.Places.{changed_at, place_stays}
@@ -18,3 +19,6 @@ returns-clause-stays c =
     rw (← c.self.view_is) at c.requires in
     let is = changed_at report_first _ _ _ _ place c.tell_at.ensures.told in
     rw (← c.self.view_is) (record { total = refl; count = refl; place = place_stays report_first (λ a. refl) _ _ _ _ place is })
+
+pub invariant_of-self : goal.invariant_of-self
+invariant_of-self c = grind (arith, elements) steps 2000000
