@@ -77,10 +77,10 @@ fn held_log<R: AllocGlobal + Files<File = File> + Drop>(
     }
 }
 
-// The variable of the log's file, where that is what is wrong.
-fn variable_of(fault: Fault) -> &'static str {
+// Why the log's file is refused, where that is what is wrong.
+fn why_no_log(fault: Fault, why: &'static str) -> &'static str {
     match fault {
-        Fault::WrongWords => log_file::VARIABLE,
+        Fault::WrongWords => why,
         _ => "",
     }
 }
@@ -260,11 +260,11 @@ fn opened_log<R: Env + AllocGlobal + Files<File = File> + Eprint + Clone + Drop>
 ) -> Result<(Log, Option<LogFile<R>>, Option<File>), ExitCode> {
     let (log, file) = match counting_log(rt, alloc, asked, options.paths.len()) {
         Ok(found) => found,
-        Err(fault) => return Err(complain(rt, fault, variable_of(fault))),
+        Err(fault) => return Err(complain(rt, fault, why_no_log(fault, log_file::UNFIT))),
     };
     match held_log(rt, &file, options) {
         Ok(held) => Ok((log, file, held)),
-        Err(fault) => Err(complain(rt, fault, variable_of(fault))),
+        Err(fault) => Err(complain(rt, fault, why_no_log(fault, log_file::TAKEN))),
     }
 }
 

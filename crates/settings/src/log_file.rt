@@ -14,6 +14,11 @@ use std::time::Clock;
 /// The variable of the environment that names the file.
 pub const VARIABLE: &str = "ARRAYD_LOG";
 
+/// Why no log is written where its name says: the name will not do, or what has it is a disk.
+pub const UNFIT: &str = "ARRAYD_LOG: no UTF-8, a block device, a link to nothing, .reg or .unit";
+
+pub const TAKEN: &str = "ARRAYD_LOG: a disk, or a file beside one";
+
 /// What stands behind the name of a disk in its own name and in those of the files beside it.
 const BESIDE: [&str; 3] = ["", ".reg", ".unit"];
 
