@@ -33,11 +33,12 @@
 //! - `A hears`: something has come for it, which it leaves there; `A leaves`: its connection is closed, and it is called so no more;
 //! - `end 9`: an administrator ends the session with this TSIH;
 //! - `clock 11`: so many seconds pass.
+use crate::doors::Flushes;
 use crate::forms::{expanded, split};
+use crate::scene::{Place, Scene};
 use std::alloc::{AllocError, Global};
 use std::test::Fail;
 use test_connections::{Host, host_texts, is_text, lines_of, pdu_of, put_number, want, want_at};
-use test_scenes::{Flushes, Place, Scene};
 
 /// The hosts of a script, and the array that they reach.
 #[derive(Drop)]

@@ -2,6 +2,12 @@
 ghost use Rattle.std.specs.Prelude.{◌≤◌, length};
 ghost use Rattle.unit_history.specs.Naming.{IsNamed};
 
+use crate::behind::Behind;
+use crate::doors::Doors;
+use crate::no_room::NoRoom;
+use crate::scene::{Portals, Scene};
+use crate::stage::Stage;
+use crate::units::{Faults, in_memory, opened};
 use array_units::Units;
 use block_file::{Blocks, FusedBlocks, FusedOpener, KeepOpener, Opener};
 use event_log::Log;
@@ -19,8 +25,6 @@ use std::thread::{JoinHandle, Threads};
 use std::time::Clock;
 use test_connections::Host;
 use test_memory::Latch;
-use test_scenes::{Behind, Doors, Faults, NoRoom, Portals, Scene, in_memory, opened};
-use test_stages::Stage;
 use unit_history::{NewUnit, Opened};
 use unit_sequence::ArrayNaming;
 
