@@ -1,7 +1,7 @@
 use Rattle.std.proofs.Common.{ℕ, Result, Ok, Err, OnOk, arith}
 use Rattle.block_file.specs.Failures.{last_count}
 use Rattle.disk_files.specs.Lasting.{IsSettled}
-use Rattle.test_deadlines.proofs.deadlines.SeeingFileDevice.flush_of.Goals as goal
+use Rattle.test_preparers.proofs.deadlines.SeeingFileDevice.flush_of.Goals as goal
 
 -- what is said of no file
 settled : {T E : Type 0} (r : Result T E) → OnOk r (IsSettled (λ (writes : ℕ). Unit {0}) last_count)
