@@ -8,7 +8,7 @@ use reservations::Registry;
 use std::alloc::Global;
 use std::process::Abort;
 use test_connections::lines_of;
-use test_devices::formatted;
+use test_scripts::formatted;
 
 // Requests, each of which is saved, and how blocks of the file begin then: a block, a place in it, and bytes that stand there. The
 // rest of a block is zeros, and so is each block that is not named.

@@ -8,7 +8,7 @@ use scsi_types::{Group, PortName, PrOutAction};
 use std::alloc::Global;
 use std::process::Abort;
 use test_connections::bytes_of;
-use test_devices::formatted;
+use test_scripts::formatted;
 
 // The blocks of a file of version 1 with two registrants, of which the second holds a reservation of type 3: its entry is told by its
 // place alone, and byte 12 is 0.

@@ -6,7 +6,7 @@ use block_file::MemBlocks;
 use std::alloc::Global;
 use std::process::Abort;
 use test_connections::lines_of;
-use test_devices::formatted;
+use test_scripts::formatted;
 
 // Each begins with a device: that of a file after these requests, or so many blocks of zeros. Then come rows: a name; the bytes that are
 // put into the device, each by its block, its place there and, in hexadecimal, its value; and why the file is refused, or that it opens.

@@ -7,7 +7,7 @@ use crash_blocks::Pick;
 use std::alloc::Global;
 use std::process::Abort;
 use test_connections::bytes_of;
-use test_devices::{Failing, FailingBlocks, OPEN_CALLS, crashed};
+use test_scripts::{Failing, FailingBlocks, OPEN_CALLS, crashed};
 
 // The blocks of a file of version 1, as the program before this one left it: `iqn.2000-01.test:a`, ISID 400001370000h, has
 // registered 11h with APTPL through group 1. In version 2 it differs in the version alone. Block 0 is the root, block 34 the slot, and
