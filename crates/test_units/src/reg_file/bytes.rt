@@ -1,7 +1,7 @@
 //! The bytes of a file, as they stand in the format.
 use crate::ends::must;
 use crate::reg_file::files::{block_of, put};
-use crate::run::out;
+use crate::registrations::run::out;
 use aptpl_file::{FILE_BLOCKS, RegFile};
 use block_file::{Blocks, MemBlocks};
 use reservations::Registry;

@@ -26,8 +26,8 @@
 //! Each line behind one that says `each` is run on a registry of its own, behind the lines before that one.
 
 use crate::ends::must;
-use crate::row::{NAMES, Who, request_of, who_named, word};
-use crate::{actions, data_bytes, steps};
+use crate::registrations::row::{NAMES, Who, request_of, who_named, word};
+use crate::registrations::{actions, data_bytes, steps};
 use reservations::{Access, PrEnd, Registry};
 use scsi_types::{PortName, Sense};
 use std::alloc::Global;

@@ -1,5 +1,5 @@
 //! Records, and devices with their blocks.
-use crate::run::out;
+use crate::registrations::run::out;
 use aptpl_file::RegFile;
 use block_file::{Blocks, MemBlocks};
 use reservations::{Record, Registry};
@@ -10,7 +10,7 @@ use test_connections::bytes_of;
 /// The calls of a save: the slot, a flush, the root, and a flush.
 pub const SAVE_CALLS: u64 = 4;
 
-/// A registry after these requests, with commas between, each as the tables have it (`run.rt`).
+/// A registry after these requests, with commas between, each as the tables have it (`registrations/run.rt`).
 pub fn registry_after(rt: &impl Abort, alloc: Global, requests: &str) -> Registry {
     let mut registry = Registry::new(alloc).expect(rt, "memory");
     for request in requests.split(", ") {
