@@ -25,7 +25,7 @@ use Rattle.unit_control.specs.Medium.{Finding, MayFind, WriteError, left, work_o
 use Rattle.unit_control.specs.Refusal.{Request, request, refusal, refusal_reply, access_by, attention_rule, conflict_rule, field_rule, list_rule, opcode_rule}
 use Rattle.unit_control.specs.Refusal.{past_end_by, saved_rule, state_for}
 use Rattle.unit_entries.specs.Histories.{IsHistory, IsToldBehind}
-use Rattle.late_flushes.specs.Flushes.{Flushing, writes, compares, synchronizes, asked_by, served_by, HasLateFlush, IsToldBehindFlush, IsUnflushed}
+use Rattle.unit_events.specs.Flushes.{Flushing, writes, compares, synchronizes, asked_by, served_by, HasLateFlush, IsToldBehindFlush, IsUnflushed}
 
 -- ---- commands without their flush
 

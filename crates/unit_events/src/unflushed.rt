@@ -1,6 +1,6 @@
 //! What a unit is asked in place of a command that ends with a flush.
 ghost use Rattle.std.specs.Prelude.{IfSome};
-ghost use Rattle.late_flushes.specs.Flushes.{IsUnflushed};
+ghost use Rattle.unit_events.specs.Flushes.{IsUnflushed};
 
 use scsi_types::{Asked, Command};
 

@@ -1,6 +1,6 @@
 use Rattle.std.proofs.Common.{rules}
-use Rattle.late_flushes.specs.Flushes.{writes, compares, synchronizes}
-use Rattle.late_flushes.proofs.unflushed.without_flush.Goals as goal
+use Rattle.unit_events.specs.Flushes.{writes, compares, synchronizes}
+use Rattle.unit_events.proofs.unflushed.without_flush.Goals as goal
 
 pub returns-in-Ok-Write-default-default-true : goal.returns-in-Ok-Write-default-default-true
 returns-in-Ok-Write-default-default-true c =
