@@ -327,9 +327,10 @@ fn play_over_a_disk<R: Threads + Wait + Clock + Abort + Clone + Drop + Send + Sy
     play(rt, alloc, &mut device, &preparer, &seen, script);
 }
 
-// `read`, `write` and `flush` are calls on the device, as in the scripts of `test_files`, and `beside` is a flush by the preparer. `stand 10000`: from now on
-// each call of the disk takes so many milliseconds. `served 2 11`: block 2 is read in time, which this byte fills. `fresh`: a read beside
-// the device, which fails, gives memory that holds nothing. `counts; (1, 2, 3)`: so many reads, writes and flushes the disk was asked for.
+// `read`, `write` and `flush` are calls on the device, as in the scripts of `test_files`, and `beside` is a flush by the preparer.
+// `stand 10000`: from now on each call of the disk takes so many milliseconds. `served 2 11`: block 2 is read in time, which this byte
+// fills. `fresh`: a read beside the device, which fails, gives memory that holds nothing. `counts; (1, 2, 3)`: so many reads, writes and
+// flushes the disk was asked for.
 fn scripts() -> &'static str {
     r#"each call is one of its own
 write 2 11
