@@ -1,6 +1,6 @@
 #!/usr/bin/env python3
 """Tries service/arrayd-reg: over the worked examples of the registration file's bytes and over the files that have to be refused,
-both as test_registrations has them (its tables are read here), and over files that a running array wrote, whose answer to READ FULL
+both as test_units has them (its tables are read here), and over files that a running array wrote, whose answer to READ FULL
 STATUS has to say the same. Not part of the gate. Wants ./arrayd, or what ARRAYD names. Status 1 where something is not as it has to be.
 
 usage: trials/registrations.py
@@ -17,7 +17,7 @@ from initiator import Session
 from running import TARGET, TOP, Array, made
 
 READER = os.path.join(TOP, "service", "arrayd-reg")
-TABLES = os.path.join(TOP, "crates", "test_registrations", "src", "reg_file")
+TABLES = os.path.join(TOP, "crates", "test_units", "src", "reg_file")
 NAMES = {"A_LONG": ("iqn.2000-01.test:a", 1), "A_LONG_TWO": ("iqn.2000-01.test:a", 2),
          "B_LONG": ("iqn.2000-01.test:b", 1), "B_LONG_TWO": ("iqn.2000-01.test:b", 2)}
 ISID = 0x400001370000

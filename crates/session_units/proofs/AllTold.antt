@@ -18,7 +18,7 @@ use Rattle.session_units.specs.Entries.{Done, replied, was_reset, AreAlike, AreE
 use Rattle.session_units.proofs.Apart.{one_session}
 use Rattle.session_units.proofs.AsTold.{alike_both, alike_itself, alike_leads, has_done_as_told, legal_back, legal_both, legal_front}
 use Rattle.session_units.proofs.Chains.{itself, one_more}
-use Rattle.late_flushes.proofs.FlushLaws.{all_weaker, reply_at_end, told_at_end}
+use Rattle.unit_events.proofs.FlushLaws.{all_weaker, reply_at_end, told_at_end}
 
 -- ---- histories that are alike
 

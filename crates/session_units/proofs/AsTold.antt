@@ -14,7 +14,7 @@ use Rattle.unit_entries.specs.Histories.{IsHistory, IsToldBehind, is_own}
 use Rattle.session_units.specs.Units.{Claims, any_device}
 use Rattle.session_units.specs.Late.{Late, never}
 use Rattle.session_units.specs.Entries.{Done, replied, was_reset, AreAlike, AreEntries, HasDone, IsEntry, IsLate, IsNextDone}
-use Rattle.late_flushes.proofs.FlushLaws.{all_weaker, reply_at_end, told_at_end, weaker}
+use Rattle.unit_events.proofs.FlushLaws.{all_weaker, reply_at_end, told_at_end, weaker}
 
 -- ---- histories
 

@@ -21,13 +21,13 @@ use Rattle.unit_lock.specs.declared.machine.Refused.TheVariants as refusals
 use Rattle.unit_control.specs.Entry.{Entry, Command}
 use Rattle.unit_entries.specs.Histories.{IsHistory, IsCommand, IsToldBehind, is_own, own}
 use Rattle.unit_history.specs.Calls.{HasServed}
-use Rattle.late_flushes.specs.Flushes.{Flushing, asked_by, served_by, IsToldBehindFlush}
+use Rattle.unit_events.specs.Flushes.{Flushing, asked_by, served_by, IsToldBehindFlush}
 use Rattle.session_units.specs.Late.{Late, late_at, IsToldEnd}
 use Rattle.session_units.specs.Units.{Claims, IsSubmitted, IsResetBy}
 use Rattle.session_units.specs.Submitted.{At, held_of, IsOnce, IsSettled, IsTwice, IsServed, IsResetAnswer, answer_of, is_moved}
 use Rattle.session_units.specs.declared.units.Unserved.{Unserved}
 use Rattle.session_units.specs.declared.units.Unserved.TheVariants.{ByUnit, ByDesk}
-use Rattle.late_flushes.proofs.FlushLaws.{has_late_flush, possible_at_end, told_by}
+use Rattle.unit_events.proofs.FlushLaws.{has_late_flush, possible_at_end, told_by}
 use Rattle.session_units.specs.Entries.{Done, replied, was_reset, done_by, reset_by, AreEntries, IsEntry, IsNextDone}
 
 pub itself : (n : ℕ) → nat_eq n n ≡ true

@@ -23,7 +23,7 @@ use Rattle.unit_state.specs.History.{state_after}
 use Rattle.unit_lock.specs.Calls.{PlacedPass}
 use Rattle.status.specs.Views.{counted}
 use Rattle.unit_entries.specs.Histories.{IsHistory, IsToldBehind, is_own, own}
-use Rattle.late_flushes.specs.Flushes.{HasLateFlush}
+use Rattle.unit_events.specs.Flushes.{HasLateFlush}
 use Rattle.session_units.specs.Late.{Late, late_at}
 use Rattle.session_units.specs.Units.{Claims}
 

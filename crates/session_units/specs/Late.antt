@@ -2,7 +2,7 @@
 use Rattle.std.specs.Prelude.{◌≡◌, ℕ, Bool, false, Result, Ok, Err}
 use Rattle.unit_lock.specs.Calls.{PlacedPass}
 use Rattle.scsi_types.specs.ReplyValue.{ReplyValue}
-use Rattle.late_flushes.specs.Flushes.{IsToldBehindFlush}
+use Rattle.unit_events.specs.Flushes.{IsToldBehindFlush}
 use Rattle.unit_control.specs.Entry.{Entry}
 use Rattle.session_units.specs.declared.units.Unserved.{Unserved}
 

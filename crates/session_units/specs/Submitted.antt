@@ -13,7 +13,7 @@ use Rattle.session_rules.specs.declared.target.ResetAnswer.{ResetAnswer}
 use Rattle.session_rules.specs.declared.target.ResetAnswer.TheVariants as resets
 use Rattle.unit_control.specs.State.{UnitState}
 use Rattle.unit_control.specs.Entry.{Entry}
-use Rattle.late_flushes.specs.Flushes.{IsUnflushed}
+use Rattle.unit_events.specs.Flushes.{IsUnflushed}
 use Rattle.session_units.specs.Late.{Late, IsToldEnd}
 use Rattle.session_units.specs.Units.{Claims, IsSubmitted, IsResetBy}
 use Rattle.session_units.specs.declared.units.Unserved.{Unserved}

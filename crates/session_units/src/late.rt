@@ -1,5 +1,5 @@
 //! What is told of commands whose flush comes behind them, when their unit is free again for others.
-ghost use Rattle.late_flushes.specs.Flushes.{IsToldBehindFlush};
+ghost use Rattle.unit_events.specs.Flushes.{IsToldBehindFlush};
 
 use crate::gate::Gate;
 use crate::units::Pass;

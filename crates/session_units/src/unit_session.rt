@@ -10,12 +10,12 @@ use crate::units::{LogicalUnits, Pass, Unserved};
 use block_file::ReplyMemory;
 use disk_preparer::Account;
 use forwarding::DeskFault;
-use late_flushes::without_flush;
 use scsi_types::{Asked, Group, Reply};
 use session::{ResetAnswer, TargetAnswer};
 use std::marker::Model;
 use std::mem;
 use std::sync::Wait;
+use unit_events::without_flush;
 use unit_history::Refused;
 
 /// A session that is attached to a unit, and the group that it believes to own the unit.

@@ -9,7 +9,7 @@ use std::fs::File;
 use std::process::Abort;
 use std::rt::Files;
 use std::test::*;
-use test_machines::{Machine, Story};
+use test_scenes::{Machine, Story};
 
 // Stories, each with its name, and behind that what fails. A script stands before the restart, and one behind it.
 fn stories() -> &'static str {

@@ -13,8 +13,8 @@ use std::sync::{Arc, Wait};
 use std::test::*;
 use std::thread::Threads;
 use std::time::{Clock, Duration};
-use test_machines::{Machine, Script};
 use test_memory::{HeldBlocks, Latch, new_unit};
+use test_scenes::{Machine, Script};
 use timed_calls::Watch;
 use unit_history::NewUnit;
 

@@ -8,7 +8,7 @@ use std::rt::Files;
 use std::time::{Clock, Duration};
 use std::{io, thread};
 use test_connections::lines_of;
-use test_machines::{Machine, Script};
+use test_scenes::{Machine, Script};
 
 /// Where the lines are written.
 const PATH: &str = "told";

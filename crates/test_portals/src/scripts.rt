@@ -7,7 +7,7 @@ use crate::{
 };
 use std::net::Ipv4Addr;
 use std::test::*;
-use test_machines::{Machine, Script};
+use test_scenes::{Machine, Script};
 
 /// Bytes that go out whole.
 const WHOLE: usize = usize::MAX;

@@ -1,15 +1,16 @@
-//! What scripts of tests over the loopback meet: units before threads share them, a gate at whose doors commands and flushes wait,
-//! stacks for which there is no room, and the portals of an array with what is behind them.
+//! What tests of the portals share: an array whose portals are served by threads while the hosts of a script perform before them
+//! (`serving`), what each line of a script has them do and how what comes to them is compared (`stage`), and what they meet: units
+//! before threads share them, a gate at whose doors commands and flushes wait, stacks for which there is no room, and the portals with
+//! what is behind them.
 #![tactic(auto)]
 
 mod behind;
 mod doors;
+mod forms;
 mod no_room;
 mod scene;
+mod serving;
+mod stage;
 mod units;
 
-pub use behind::{Behind, Console};
-pub use doors::{Doors, Flushes};
-pub use no_room::NoRoom;
-pub use scene::{Place, Portals, Scene};
-pub use units::{Faults, HeldUnit, in_memory, opened};
+pub use serving::{Begun, Machine, Script, Story};

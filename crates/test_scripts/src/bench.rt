@@ -1,5 +1,7 @@
 //! The unit of a script, and its devices.
+use crate::device::{Failing, FailingBlocks, crashed};
 use crate::ended::Ended;
+use crate::in_memory::{OPEN_CALLS, formatted};
 use crate::rows::Row;
 use crate::served::Served;
 use block_file::{Blocks, DeviceFailed, FusedOpener, KeepOpener, MemBlocks};
@@ -7,7 +9,6 @@ use crash_blocks::Pick;
 use scsi_types::Place;
 use std::alloc::Global;
 use std::test::Fail;
-use test_devices::{Failing, FailingBlocks, OPEN_CALLS, crashed, formatted};
 use unit_state::Unit;
 
 /// The unit that a script has: for how many numbers it is played, the unit's number among two of the array 1, how many blocks of

@@ -31,12 +31,12 @@
 //! call. What was written last is there behind a restart.
 //! `written 1 5A`: afterwards this block is of this byte; all others are of zeros.
 use crate::bench::{Faults, NO_FAULTS, Setup};
+use crate::device::Failing;
 use crash_blocks::Pick;
 use scsi_types::Place;
 use std::alloc::Global;
 use std::test::Fail;
 use test_connections::{RowError, Texts, bytes_of, want_at};
-use test_devices::Failing;
 
 /// The TransportIDs of two ports, behind their first four bytes (SPC-4, 7.6.4.6).
 const TEXTS: Texts = &[

@@ -2,10 +2,14 @@
 use std::fmt::Debug;
 use std::process::Abort;
 
-/// Ends the test unless this holds: where that was, and what came. A call of this takes fewer steps than an `assert!` with
-/// its own text, and so costs less to prove.
+/// Ends the test: where that was, and what came.
+pub fn fail<D: Debug>(rt: &impl Abort, place: &str, came: &D) -> ! {
+    panic!(rt; "{place}: {came:?}")
+}
+
+/// Ends it unless this holds. A call of this takes fewer steps than an `assert!` with its own text, and so costs less to prove.
 pub fn must<D: Debug>(rt: &impl Abort, holds: bool, place: &str, came: &D) {
     if !holds {
-        panic!(rt; "{place}: {came:?}");
+        fail(rt, place, came);
     }
 }

@@ -1,6 +1,7 @@
 //! Tests of a logical unit over its public calls: each table is a text with rows of what sessions ask, and of what is answered
-//! (`test_scripts`). Beside them stand the rules that stand below a unit (`rules`), and what a restart finds behind a loss of power at
-//! each call of each device (`power`, `stops`).
+//! (`test_scripts`). Beside them stand the rules that stand below a unit (`rules`), registrations and reservations (`registrations`), the
+//! registration file by itself (`reg_file`), and what a restart finds behind a loss of power at each call of each device (`power`,
+//! `stops`).
 #![tactic(auto)]
 
 #[cfg(test)]
@@ -21,6 +22,10 @@ mod lasting;
 mod medium;
 #[cfg(test)]
 mod power;
+#[cfg(test)]
+mod reg_file;
+#[cfg(test)]
+mod registrations;
 #[cfg(test)]
 mod rules;
 #[cfg(test)]

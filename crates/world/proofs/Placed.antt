@@ -8,8 +8,8 @@ use Rattle.unit_control.specs.State.{UnitState}
 use Rattle.unit_control.specs.Entry.{Entry, Command, IsPossible, after}
 use Rattle.unit_state.specs.History.{state_after, IsLegal, IsReplyAt}
 use Rattle.unit_entries.specs.Histories.{IsToldBehind}
-use Rattle.late_flushes.specs.Flushes.{IsToldBehindFlush, IsUnflushed}
-use Rattle.late_flushes.proofs.FlushLaws.{late_flush_of}
+use Rattle.unit_events.specs.Flushes.{IsToldBehindFlush, IsUnflushed}
+use Rattle.unit_events.proofs.FlushLaws.{late_flush_of}
 use Rattle.world.specs.Orders.{IsSettledAt}
 use Rattle.unit_events.specs.declared.job.Job.{Job}
 use Rattle.world.proofs.Lists.{some_same}

@@ -15,8 +15,8 @@ use Rattle.unit_control.specs.State.{UnitState}
 use Rattle.unit_control.specs.Entry.{Entry, Attach, Detach, Reset, Move, Command, after}
 use Rattle.unit_state.specs.History.{IsReplyAt}
 use Rattle.unit_entries.specs.Histories.{IsCommand, command}
-use Rattle.late_flushes.specs.Flushes.{IsUnflushed}
-use Rattle.late_flushes.proofs.FlushLaws.{late_by}
+use Rattle.unit_events.specs.Flushes.{IsUnflushed}
+use Rattle.unit_events.proofs.FlushLaws.{late_by}
 use Rattle.world.specs.Orders.{IsEntryAt, IsFlushedBehind, IsNone, IsNoted, IsSettledAt, IsSubmittedBehind}
 use Rattle.world.specs.declared.note.Note.{Note}
 use Rattle.world.specs.declared.note.What.{What}

@@ -14,7 +14,7 @@ use Rattle.unit_control.specs.Entry.{Entry, Attach, Command}
 use Rattle.unit_entries.specs.Histories.{IsToldBehind, command}
 use Rattle.scsi_types.specs.declared.command.Command.{Command as ScsiCommand}
 use Rattle.scsi_types.specs.declared.command.CdbFault.{CdbFault}
-use Rattle.late_flushes.specs.Flushes.{IsUnflushed}
+use Rattle.unit_events.specs.Flushes.{IsUnflushed}
 use Rattle.world.specs.Orders.{IsEntryAt, IsNone, IsNoted}
 use Rattle.world.specs.Traffic.{Traffic, IsAgain, IsHanded, IsTakenBack, at_stage, attached, begun, closed}
 use Rattle.world.specs.Traffic.{ended_in, free, given, given_up, handed_in, in_hand, in_lane}

@@ -13,7 +13,7 @@ use Rattle.scsi_types.specs.declared.command.Command.{Command as ScsiCommand}
 use Rattle.scsi_types.specs.declared.command.CdbFault.{CdbFault}
 use Rattle.scsi_types.specs.declared.status.Status.{Status}
 use Rattle.scsi_types.specs.declared.status.Status.TheVariants as statuses
-use Rattle.late_flushes.specs.Flushes.{IsToldBehindFlush, IsUnflushed}
+use Rattle.unit_events.specs.Flushes.{IsToldBehindFlush, IsUnflushed}
 use Rattle.world.specs.Orders.{IsNone}
 use Rattle.world.specs.Traffic.{Traffic, answered_in, as_asked, at_stage}
 use Rattle.world.specs.Traffic.{collected, flush_ended, flush_in, free, given, given_up, heard}

@@ -9,7 +9,7 @@ use Rattle.unit_control.specs.Choice.{Choice}
 use Rattle.unit_control.specs.Entry.{Entry, Command}
 use Rattle.unit_state.specs.History.{IsReplyAt}
 use Rattle.unit_entries.specs.Histories.{IsCommand, IsHistory}
-use Rattle.late_flushes.specs.Flushes.{HasLateFlush}
+use Rattle.unit_events.specs.Flushes.{HasLateFlush}
 use Rattle.world.specs.Events.{Scene}
 use Rattle.world.specs.declared.note.Note.{Note}
 use Rattle.world.specs.declared.note.What.{What}

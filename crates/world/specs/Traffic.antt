@@ -11,7 +11,7 @@ use Rattle.scsi_types.specs.ReplyValue.{ReplyValue, check}
 use Rattle.scsi_types.specs.Sense.{write_error}
 use Rattle.scsi_types.specs.declared.status.Status.{Status}
 use Rattle.scsi_types.specs.declared.status.Status.TheVariants as statuses
-use Rattle.late_flushes.specs.Flushes.{IsUnflushed}
+use Rattle.unit_events.specs.Flushes.{IsUnflushed}
 use Rattle.world.specs.declared.note.Note.{Note}
 use Rattle.world.specs.declared.note.What.{What}
 use Rattle.world.specs.declared.note.What.TheVariants.{Submitted, FlushBegan, Replied as HasReply, Settled, Busy, Gone}

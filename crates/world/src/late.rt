@@ -2,10 +2,9 @@
 ghost use Rattle.std.specs.Prelude.{◌≡◌};
 ghost use Rattle.world.specs.Traffic.{IsHanded, asked_of, is_good, put_off, told_behind};
 
-use late_flushes::without_flush;
 use scsi_types::{Asked, Reply, Sense, Status};
 use std::alloc::Global;
-use unit_events::Job;
+use unit_events::{Job, without_flush};
 
 // What a session hands in for a command: without its flush, where flushes may be left to come behind their commands.
 pub(crate) fn handed(job: Job, is_late: bool) -> Job

@@ -1,0 +1,384 @@
+//! Calls that have a deadline, over a disk that counts what it is asked, and stands still when it is told to.
+ghost use Rattle.std.specs.Prelude.{[], true, false};
+ghost use Rattle.block_file.specs.Failures.{last_count};
+
+use crate::ends::must;
+use block_file::{Blocks, DeviceFailed, KeepOpener, MemBlocks};
+use deadline::DeadlinedPreparer;
+use disk_files::FileDevice;
+use disk_preparer::{BlockMemory, Node, OnDisk, Preparer};
+use std::alloc::Global;
+use std::process::Abort;
+use std::sync::atomic::{AtomicU64, Ordering};
+use std::sync::{Arc, Wait};
+use std::thread::{self, Threads};
+use std::time::{Clock, Duration};
+use test_disks::{Row, is_done_on, reads, row_of, timed, watch};
+
+/// So many seconds a call may take.
+const PATIENCE: u64 = 1;
+
+/// So often one looks for what another thread does, a millisecond each.
+const TRIES: u64 = 10_000;
+
+/// A disk in no file.
+const NO_FILE: Node = Node {
+    device: 0,
+    number: 0,
+};
+
+/// What a disk was asked, and for how long it stands still.
+struct Seen {
+    stands: AtomicU64,
+    reads: AtomicU64,
+    writes: AtomicU64,
+    flushes: AtomicU64,
+}
+
+impl Drop for Seen {
+    fn drop(self) {
+        let Self {
+            stands: _,
+            reads: _,
+            writes: _,
+            flushes: _,
+        } = self;
+    }
+}
+
+impl Seen {
+    // Counts a call, which comes back when the disk does not stand still.
+    fn call<R: Clock>(&self, rt: &R, count: &AtomicU64) {
+        count.fetch_add(1, Ordering::AcqRel);
+        for tried in 0..TRIES {
+            if tried >= self.stands.load(Ordering::Acquire) {
+                break;
+            }
+            thread::sleep(rt, Duration::from_millis(1));
+        }
+    }
+
+    // From now on the disk stands still for so many milliseconds a call.
+    fn stand(&self, time: u64) {
+        self.stands.store(time, Ordering::Release);
+    }
+
+    // Reads, writes and flushes so far.
+    fn counts(&self) -> (u64, u64, u64) {
+        (
+            self.reads.load(Ordering::Acquire),
+            self.writes.load(Ordering::Acquire),
+            self.flushes.load(Ordering::Acquire),
+        )
+    }
+}
+
+/// The device of the disk. Of its contents it claims nothing.
+#[derive(Drop)]
+struct Seeing<B: Blocks> {
+    inner: B,
+    rt: HostRuntime,
+    seen: Arc<Seen, Global>,
+}
+
+impl<B: Blocks> OnDisk for Seeing<B> {
+    ghost disk = { λ d. record { device = 0; number = 0 } };
+}
+
+impl<B: Blocks> Blocks for Seeing<B> {
+    ghost claims = { false };
+
+    ghost claims_moments = { false };
+
+    ghost size = { λ d. B.size d.inner };
+
+    ghost contents = { λ d. [] };
+
+    ghost may_hold = { λ d k value. Unit {0} };
+
+    ghost moment = { λ d. 0 };
+
+    ghost left_since = { λ d t disk. Unit {0} };
+
+    ghost reads_failed = { λ d. B.reads_failed d.inner };
+
+    ghost writes_failed = { λ d. B.writes_failed d.inner };
+
+    ghost failures = { λ d. B.failures d.inner };
+
+    ghost fits = { λ d. B.fits d.inner };
+
+    ghost summed = { λ d. B.summed d.inner };
+
+    ghost bounded = { λ d. B.bounded d.inner };
+
+    ghost sized = { λ d h. Prim.cc };
+
+    ghost wide = { λ d k h. Prim.cc };
+
+    ghost is_outcome = { λ d k h lt. tt };
+
+    ghost counts_now = { λ d t disk h. Prim.cc };
+
+    ghost only_now = { λ d disk h. Prim.cc };
+
+    fn count(&self) -> u32 {
+        self.inner.count()
+    }
+
+    fn read_run(&mut self, first: u32, bytes: &mut [u8]) -> Result<(), DeviceFailed> {
+        self.seen.call(&self.rt, &self.seen.reads);
+        self.inner.read_run(first, bytes)
+    }
+
+    fn write_run(&mut self, first: u32, bytes: &[u8]) -> Result<(), DeviceFailed> {
+        self.seen.call(&self.rt, &self.seen.writes);
+        self.inner.write_run(first, bytes)
+    }
+
+    fn flush(&mut self) -> Result<(), DeviceFailed> {
+        self.seen.call(&self.rt, &self.seen.flushes);
+        self.inner.flush()
+    }
+}
+
+// It lies in no file, and says nothing of one: a count at its end.
+impl<B: Blocks> FileDevice for Seeing<B> {
+    ghost has_read = { λ disk offset bytes. Unit {0} };
+
+    ghost has_written = { λ disk offset bytes. Unit {0} };
+
+    ghost lasts = { λ disk writes. Unit {0} };
+
+    ghost writes = { λ d. last_count };
+
+    ghost is_lost = { λ d. false };
+
+    fn disk(&self) -> Node {
+        NO_FILE
+    }
+
+    fn ended_writes(&self) -> u64 {
+        u64::MAX
+    }
+
+    fn read_of(&mut self, first: u32, bytes: &mut [u8]) -> Result<(), DeviceFailed> {
+        self.read_run(first, bytes)
+    }
+
+    fn write_of(&mut self, first: u32, bytes: &[u8]) -> Result<(), DeviceFailed> {
+        self.write_run(first, bytes)
+    }
+
+    fn flush_of(&mut self) -> Result<(), DeviceFailed> {
+        self.flush()
+    }
+}
+
+/// Its preparer, whose reads fail.
+#[derive(Drop)]
+struct SeeingPreparer {
+    disk: Node,
+    rt: HostRuntime,
+    seen: Arc<Seen, Global>,
+}
+
+impl Preparer for SeeingPreparer {
+    ghost may_flush = { true };
+
+    ghost disk = { λ p. p.disk };
+
+    ghost has_flushed = { λ disk. Unit {0} };
+
+    fn wants_hints(&self) -> bool {
+        false
+    }
+
+    fn advise(&self, _first: u64, _blocks: u16) {}
+
+    fn advise_edges(&self, _first: u64, _blocks: u16) {}
+
+    fn wants(&self, _serial: u64) -> bool {
+        false
+    }
+
+    fn fetch(&self, _first: u64, _blocks: u16) {}
+
+    fn fetch_edges(&self, _first: u64, _blocks: u16) {}
+
+    fn read(&self, _first: u64, bytes: Vec<u8>, _is_looked_at: bool) -> Option<BlockMemory> {
+        self.seen.call(&self.rt, &self.seen.reads);
+        Some(BlockMemory::fresh(bytes))
+    }
+
+    fn flushes(&self) -> bool {
+        true
+    }
+
+    fn flush(&self) -> bool {
+        self.seen.call(&self.rt, &self.seen.flushes);
+        true
+    }
+}
+
+// What such a disk has seen: nothing yet.
+fn nothing(rt: &impl Abort, alloc: Global) -> Arc<Seen, Global> {
+    let seen = Seen {
+        stands: AtomicU64::new(0),
+        reads: AtomicU64::new(0),
+        writes: AtomicU64::new(0),
+        flushes: AtomicU64::new(0),
+    };
+    Arc::new(alloc, seen).expect(rt, "memory")
+}
+
+// Once more what it has seen.
+fn share(rt: &impl Abort, seen: &Arc<Seen, Global>) -> Arc<Seen, Global> {
+    Arc::try_clone(seen).expect(rt, "memory")
+}
+
+// Whether the device is served again in time: block 2 is read, which these bytes fill.
+fn is_served<B: Blocks>(rt: &impl Clock, device: &mut B, bytes: &[u8]) -> bool {
+    for _ in 0..TRIES {
+        if reads(device, 2, bytes) {
+            return true;
+        }
+        thread::sleep(rt, Duration::from_millis(1));
+    }
+    false
+}
+
+// Whether a read beside the device, which fails, gives memory that holds nothing.
+fn is_fresh<P: Preparer>(alloc: Global, preparer: &P) -> bool {
+    let Ok(bytes) = vec![in alloc; 0xDD; 512] else {
+        return false;
+    };
+    match preparer.read(2, bytes, true) {
+        Some(memory) => memory.beside.is_none(),
+        None => false,
+    }
+}
+
+// How counts are told.
+fn said(rt: &impl Abort, alloc: Global, counts: (u64, u64, u64)) -> String {
+    format!(in alloc; "{counts:?}").expect(rt, "memory")
+}
+
+// Whether a row ends as it says.
+fn ends_so<B: Blocks, P: Preparer>(
+    rt: &(impl Clock + Abort),
+    alloc: Global,
+    device: &mut B,
+    preparer: &P,
+    seen: &Seen,
+    row: &Row,
+) -> bool {
+    match row.word {
+        "stand" => {
+            seen.stand(row.on.parse().expect(rt, row.on));
+            true
+        }
+        "served" => is_served(rt, device, &row.bytes(alloc).expect(rt, row.rest)),
+        "beside" => row.ends(preparer.flush()),
+        "fresh" => row.ends(is_fresh(alloc, preparer)),
+        "counts" => said(rt, alloc, seen.counts()).as_str() == row.end,
+        _ => row.ends(is_done_on(alloc, device, row).expect(rt, row.on)),
+    }
+}
+
+// Plays the rows of a script, whose first line is its name.
+fn play<B: Blocks, P: Preparer>(
+    rt: &(impl Clock + Abort),
+    alloc: Global,
+    device: &mut B,
+    preparer: &P,
+    seen: &Seen,
+    script: &str,
+) {
+    let (name, rows) = script.split_once('\n').unwrap_or((script, ""));
+    for line in rows.split('\n') {
+        let ends_so = ends_so(rt, alloc, device, preparer, seen, &row_of(line));
+        must(rt, ends_so, name, &line);
+    }
+}
+
+// Plays a script over a disk of its own.
+fn play_over_a_disk<R: Threads + Wait + Clock + Abort + Clone + Drop + Send + Sync + 'static>(
+    rt: &R,
+    host: HostRuntime,
+    alloc: Global,
+    script: &str,
+) {
+    let seen = nothing(rt, alloc);
+    let watch = watch(alloc, PATIENCE, NO_FILE).expect(rt, "memory");
+    let blocks = Seeing {
+        inner: MemBlocks::new(alloc, 16).expect(rt, "memory"),
+        rt: host,
+        seen: share(rt, &seen),
+    };
+    let by = SeeingPreparer {
+        disk: NO_FILE,
+        rt: host,
+        seen: share(rt, &seen),
+    };
+    let preparer = DeadlinedPreparer::start(rt, alloc, by, NO_FILE, &watch).expect(rt, "threads");
+    let device = timed(rt, alloc, blocks, KeepOpener, NO_FILE, &watch);
+    let mut device = device.expect(rt, "a thread");
+    play(rt, alloc, &mut device, &preparer, &seen, script);
+}
+
+// `read`, `write` and `flush` are calls on the device, as in the scripts of `test_files`, and `beside` is a flush by the preparer.
+// `stand 10000`: from now on each call of the disk takes so many milliseconds. `served 2 11`: block 2 is read in time, which this byte
+// fills. `fresh`: a read beside the device, which fails, gives memory that holds nothing. `counts; (1, 2, 3)`: so many reads, writes and
+// flushes the disk was asked for.
+fn scripts() -> &'static str {
+    r#"each call is one of its own
+write 2 11
+read 2 11
+write 2 22
+read 2 22
+flush
+flush
+counts; (2, 2, 2)
+beside
+beside
+counts; (2, 2, 4)
+fresh
+counts; (3, 2, 4)
+
+a call that hangs stops all until it is back
+write 2 11
+stand 10000
+beside; failed
+read 2 11; failed
+beside; failed
+write 3 33; failed
+counts; (0, 1, 1)
+stand 0
+served 2 11
+beside
+counts; (1, 1, 2)
+stand 10000
+write 2 22; failed
+read 2 11; failed
+beside; failed
+counts; (1, 2, 2)
+stand 0
+served 2 22
+write 2 44
+read 2 44
+
+one that comes back by itself, too late
+write 2 44
+stand 1500
+write 2 55; failed
+stand 0
+served 2 55"#
+}
+
+#[test]
+fn each_call_has_a_deadline(rt: HostRuntime) {
+    for script in scripts().split("\n\n") {
+        play_over_a_disk(&rt, rt, rt.alloc(), script);
+    }
+}
