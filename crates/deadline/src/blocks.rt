@@ -169,8 +169,8 @@ fn write_by<R: Wait + Clock + Drop, B: FileDevice, O: Opener<B>>(
     first: u32,
     bytes: &[u8],
 ) -> Option<u64>
-    ensures answered { IfSome result (λ ended. HasWritten (calls B.Blocks B.OnDisk B.has_read B.has_written B.lasts B.writes B.is_lost O.Opener)
-        disk first bytes.now ended) }
+    ensures answered { IfSome result (λ ended. HasWritten
+        (calls B.Blocks B.OnDisk B.has_read B.has_written B.lasts B.writes B.is_lost O.Opener) disk first bytes.now ended) }
     ensures rises { writes.old ≤ writes.new }
 {
     let (turn, request) = take_by(asker, writes)?;

@@ -121,8 +121,8 @@ impl<B: FileDevice, O: Opener<B>> Request<B, O> {
     /// Whether this was wanted of this file, and was done.
     pub(crate) fn has_done(&self, disk: Node, wanted: Wanted) -> bool
         ensures wanted { IsTrue result → self.now.wanted ≡ wanted }
-        ensures answered { IsTrue result → HasAnswered (calls B.Blocks B.OnDisk B.has_read B.has_written B.lasts B.writes B.is_lost O.Opener)
-            disk self.now.writes wanted self.now.bytes }
+        ensures answered { IsTrue result → HasAnswered
+            (calls B.Blocks B.OnDisk B.has_read B.has_written B.lasts B.writes B.is_lost O.Opener) disk self.now.writes wanted self.now.bytes }
     {
         self.is_done && self.wanted == wanted && self.disk.is(disk)
     }
@@ -142,8 +142,8 @@ impl<B: FileDevice, O: Opener<B>> Request<B, O> {
 
     /// Whether this was wanted of this file, and was done with so many bytes.
     pub(crate) fn has_done_all(&self, disk: Node, wanted: Wanted, count: usize) -> bool
-        ensures answered { IsTrue result → HasAnswered (calls B.Blocks B.OnDisk B.has_read B.has_written B.lasts B.writes B.is_lost O.Opener)
-            disk self.now.writes wanted self.now.bytes }
+        ensures answered { IsTrue result → HasAnswered
+            (calls B.Blocks B.OnDisk B.has_read B.has_written B.lasts B.writes B.is_lost O.Opener) disk self.now.writes wanted self.now.bytes }
         ensures all { IsTrue result → length self.now.bytes ≡ count }
     {
         self.has_done(disk, wanted) && self.bytes.len() == count
@@ -219,7 +219,8 @@ impl<B: FileDevice, O: Opener<B>> DeviceRunner<B, O> {
     // Where fewer writes have ended than are to last, nothing is flushed.
     fn flush(&mut self, writes: u64) -> bool
         ensures { IsTrue result
-            → HasFlushed (calls B.Blocks B.OnDisk B.has_read B.has_written B.lasts B.writes B.is_lost O.Opener) (B.disk self.old.blocks) writes }
+            → HasFlushed (calls B.Blocks B.OnDisk B.has_read B.has_written B.lasts B.writes B.is_lost O.Opener)
+            (B.disk self.old.blocks) writes }
     {
         if self.blocks.ended_writes() < writes {
             return false;
@@ -232,15 +233,16 @@ impl<B: FileDevice, O: Opener<B>> DeviceRunner<B, O> {
 
     fn open(&mut self, writes: u64) -> bool
         ensures { IsTrue result
-            → HasOpened (calls B.Blocks B.OnDisk B.has_read B.has_written B.lasts B.writes B.is_lost O.Opener) (B.disk self.old.blocks) writes }
+            → HasOpened (calls B.Blocks B.OnDisk B.has_read B.has_written B.lasts B.writes B.is_lost O.Opener)
+            (B.disk self.old.blocks) writes }
     {
         writes <= self.blocks.ended_writes() && self.opener.open(&mut self.blocks).is_ok()
     }
 
     // Does what is wanted: whether it went well.
     fn does(&mut self, wanted: Wanted, bytes: &mut Vec<u8>) -> bool
-        ensures answered { IsTrue result → HasAnswered (calls B.Blocks B.OnDisk B.has_read B.has_written B.lasts B.writes B.is_lost O.Opener)
-            (B.disk self.old.blocks) (B.writes self.new.blocks) wanted bytes.new.items }
+        ensures answered { IsTrue result → HasAnswered
+            (calls B.Blocks B.OnDisk B.has_read B.has_written B.lasts B.writes B.is_lost O.Opener) (B.disk self.old.blocks) (B.writes self.new.blocks) wanted bytes.new.items }
         ensures given { given_to wanted bytes.new.items ≡ given_to wanted bytes.old.items }
     {
         match wanted {

@@ -301,8 +301,8 @@ fn is_held_behind<R: Wait, U: LogicalUnits, C: Connection>(
 }
 
 // Attaches a normal session that has its turn to all units; then it begins to live: its number and its TSIH. It may have waited for long,
-// for its turn and for units, and would end a session of its port that lives: so it is refused where its connection is over by then. Where a unit or the table
-// refuses it, it is over at all units. What was seen then is kept.
+// for its turn and for units, and would end a session of its port that lives: so it is refused where its connection is over by then.
+// Where a unit or the table refuses it, it is over at all units. What was seen then is kept.
 #[tactic(auto, using(crate::proofs::Refusing::too_late))]
 fn attach_and_enter<R: Wait, U: LogicalUnits, S: Sessions>(
     turn: &mut Turn,

@@ -82,7 +82,8 @@ impl Model for Negotiation {
 }
 
 impl Negotiation {
-    ghost use Rattle.login.specs.Refusal.{refusal_in, first_refusal, rules_of_first, rules_of_later, rules_of_names, has_repeated, is_too_long};
+    ghost use Rattle.login.specs.Refusal.{refusal_in, first_refusal, rules_of_first, rules_of_later, rules_of_names, has_repeated};
+    ghost use Rattle.login.specs.Refusal.{is_too_long};
     ghost use Rattle.login.specs.Request.{answer_to, answer_by, after, passed, told};
     ghost use Rattle.login.specs.Request.{response, group_text, length_text, tells_length};
 

@@ -12,9 +12,10 @@
 //! given pattern 1536
 //! ```
 //!
-//! A table is one text, with an empty line between two rows, or a form and a line for each row (`Form` in `run.rt`). Of its lines, one that begins with `#` is a comment, and one
-//! that begins with a blank goes on with the line before. The first line of a row is its name. Each other line is one of
-//! these, and one that is none, that its table has no use for, or that cannot be read, fails the test with the row's name.
+//! A table is one text, with an empty line between two rows, or a form and a line for each row (`Form` in `run.rt`). Of its
+//! lines, one that begins with `#` is a comment, and one that begins with a blank goes on with the line before. The first
+//! line of a row is its name. Each other line is one of these, and one that is none, that its table has no use for, or that
+//! cannot be read, fails the test with the row's name.
 //! Those of `>`, `<`, `asked` and `written` stand as often as there is something to say, the others once at most.
 //!
 //! - `> PDU`: what comes, and `< PDU`: what goes out, in their order; a row has one of them at least. `test_connections` says

@@ -26,7 +26,8 @@ pub struct Visited<'a> {
     pub left: Option<Site<'a>>,
 }
 
-/// The lines of the console of an array that is visited: `status`, then one that is none of its own, once the hosts have been there, and `quit`.
+/// The lines of the console of an array that is visited: `status`, then one that is none of its own, once the hosts have been there, and
+/// `quit`.
 #[derive(Drop)]
 pub struct Lines<'a, R> {
     rt: &'a R,

@@ -50,8 +50,8 @@ impl Spent {
         self.time >= patience && !has_anew
     }
 
-    /// One has slept; the thread was at the call, or was not. Where another flush was done meanwhile, one that flushes has its time anew: it
-    /// may have waited for that one. False: the clock cannot be read.
+    /// One has slept; the thread was at the call, or was not. Where another flush was done meanwhile, one that flushes has its time anew:
+    /// it may have waited for that one. False: the clock cannot be read.
     pub fn go_on<R: Clock>(&mut self, rt: &R, watch: &Watch, call: Call, is_at_it: bool) -> bool {
         let Ok(now) = rt.monotonic() else {
             return false;
