@@ -47,7 +47,7 @@ NAMES = ["iqn.2000-13.test:x", "iqn.2000-00.test:x", "iqn.2000-01", "iqn.2000-01
 
 # Why a log is refused.
 UNFIT = "ARRAYD_LOG: no UTF-8, a block device, a link to nothing, .reg or .unit"
-TAKEN = "ARRAYD_LOG: a disk, or a file beside one"
+IS_A_DISK = "ARRAYD_LOG: a disk, or a file beside one"
 
 # What the environment has, and what of it is named.
 VARIABLES = [
@@ -57,14 +57,14 @@ VARIABLES = [
     ({"ARRAYD_CONTROL": "x" * 108}, "ARRAYD_CONTROL"), ({b"PS9": b"\xff", "ARRAYD_LOGS": "x"}, "ARRAYD_LOGS"),
     ({"PS9": "x" * 10000, "ARRAYD_LOGS": "x"}, "ARRAYD_LOGS"),
     # the log is no disk, nor a file beside one, whatever its name
-    *(({"ARRAYD_LOG": name}, TAKEN) for name in ("disk", "./disk", "link", "linked")),
+    *(({"ARRAYD_LOG": name}, IS_A_DISK) for name in ("disk", "./disk", "link", "linked")),
     *(({"ARRAYD_LOG": name}, UNFIT) for name in ("disk.reg", "disk.unit", "linked.reg")),
     # it has no name of a file that may come beside a disk
     *(({"ARRAYD_LOG": name}, UNFIT) for name in ("./odd.reg", "./odd.unit", "other.unit")),
     # it has no name beside which files of a disk lie, whether the disk is there or not
-    *(({"ARRAYD_LOG": name}, TAKEN) for name in ("noreg", "./noreg", "gone")),
+    *(({"ARRAYD_LOG": name}, IS_A_DISK) for name in ("noreg", "./noreg", "gone")),
     # nor does it lead there: what a link is called says nothing of the disk
-    *(({"ARRAYD_LOG": name}, TAKEN) for name in ("to_served", "to_reg")),
+    *(({"ARRAYD_LOG": name}, IS_A_DISK) for name in ("to_served", "to_reg")),
     # it is no link that leads nowhere, and no block device
     *(({"ARRAYD_LOG": name}, UNFIT) for name in ("nowhere", "device")),
 ]
@@ -247,7 +247,7 @@ def main():
         expect("a last line without its end", run(words, "status"), (0, "arrayd: ready\n" + status, ""))
         with Array(["disk"]) as first:
             refused(["--port", str(PORT + 8), "disk"], "cannot use unit 0", "another server has it, or another unit: disk")
-            refused(["--port", str(PORT + 8), "empty"], WRONG, f": {TAKEN}\n", more={"ARRAYD_LOG": "disk"})
+            refused(["--port", str(PORT + 8), "empty"], WRONG, f": {IS_A_DISK}\n", more={"ARRAYD_LOG": "disk"})
             expect("quit", first.quit(), 0)
         with Array(["disk"], log="log") as first:
             # its lines have been written then
