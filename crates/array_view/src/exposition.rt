@@ -18,40 +18,44 @@ const BLOCK: u64 = 512;
 /// The sense key of a COMPARE AND WRITE that found a difference (SPC-4, table 43).
 const MISCOMPARE: usize = 14;
 
-// A metric begins: what it tells, and its type.
-fn begin(text: &mut String, name: &str, kind: &str, words: &str) -> Result<(), AllocError> {
-    put_help(text, name, words)?;
-    put_type(text, name, kind)
+// The lines that are written. They keep whether all of them could be, and from the first failure on no more are written.
+#[derive(Drop)]
+struct Lines {
+    text: String,
+    are_whole: bool,
 }
 
-fn put(
-    text: &mut String,
-    name: &str,
-    labels: &[Label<'_>],
-    amount: Amount,
-) -> Result<(), AllocError> {
-    put_sample(text, name, labels, amount)
+impl Lines {
+    // A metric begins: what it tells, and its type.
+    fn begin(&mut self, name: &str, kind: &str, words: &str) {
+        self.are_whole = self.are_whole
+            && put_help(&mut self.text, name, words).is_ok()
+            && put_type(&mut self.text, name, kind).is_ok();
+    }
+
+    // A sample of it.
+    fn put(&mut self, name: &str, labels: &[Label<'_>], amount: Amount) {
+        self.are_whole = self.are_whole && put_sample(&mut self.text, name, labels, amount).is_ok();
+    }
 }
 
 // The version, and the target's name.
-fn build(text: &mut String, name: &str, view: &ArrayView) -> Result<(), AllocError> {
+fn build(lines: &mut Lines, name: &str, view: &ArrayView) {
     let version = Label::Word("version", view.version);
     let target = Label::Name("target", view.target.as_bytes());
     let array = Label::Number("array", view.array);
-    put(text, name, &[version, target, array], Count(1))
+    lines.put(name, &[version, target, array], Count(1));
 }
 
 // Logins that were refused, by what was lacking.
-fn refused(text: &mut String, name: &str, tallies: &[NamedCount]) -> Result<(), AllocError> {
+fn refused(lines: &mut Lines, name: &str, tallies: &[NamedCount]) {
     for tally in tallies {
-        put(
-            text,
+        lines.put(
             name,
             &[Label::Word("cause", tally.what)],
             Count(tally.count),
-        )?;
+        );
     }
-    Ok(())
 }
 
 // The label of a controller.
@@ -60,26 +64,24 @@ fn controller_label(controller: &Controller) -> Label<'static> {
 }
 
 // Whether each controller is down.
-fn downs(text: &mut String, name: &str, controllers: &[Controller]) -> Result<(), AllocError> {
+fn downs(lines: &mut Lines, name: &str, controllers: &[Controller]) {
     for controller in controllers {
         let is_down = Count(u64::from(controller.is_down));
-        put(text, name, &[controller_label(controller)], is_down)?;
+        lines.put(name, &[controller_label(controller)], is_down);
     }
-    Ok(())
 }
 
 // Sessions by their controller, of which some are for discovery.
-fn sessions(text: &mut String, name: &str, controllers: &[Controller]) -> Result<(), AllocError> {
+fn sessions(lines: &mut Lines, name: &str, controllers: &[Controller]) {
     for controller in controllers {
         let label = controller_label(controller);
         let (all, discoveries) = (controller.sessions, controller.discoveries);
         let normal = Label::Word("type", "normal");
         let others = Count(all.saturating_sub(discoveries));
-        put(text, name, &[label, normal], others)?;
+        lines.put(name, &[label, normal], others);
         let discovery = Label::Word("type", "discovery");
-        put(text, name, &[label, discovery], Count(discoveries))?;
+        lines.put(name, &[label, discovery], Count(discoveries));
     }
-    Ok(())
 }
 
 // The labels of a session.
@@ -93,13 +95,12 @@ fn labels_of(session: &SessionView) -> [Label<'_>; 4] {
 }
 
 // Commands of each session but the discovery sessions, which have none: whoever comes may name as many of these as he likes.
-fn of_sessions(text: &mut String, name: &str, sessions: &[SessionView]) -> Result<(), AllocError> {
+fn of_sessions(lines: &mut Lines, name: &str, sessions: &[SessionView]) {
     for session in sessions {
         if !session.is_discovery {
-            put(text, name, &labels_of(session), Count(session.commands))?;
+            lines.put(name, &labels_of(session), Count(session.commands));
         }
     }
-    Ok(())
 }
 
 // What is measured of the array, where it is one number.
@@ -119,22 +120,19 @@ fn amount_of_array(view: &ArrayView, what: OfArray) -> Option<Amount> {
 }
 
 // A metric of the array.
-fn of_array(
-    text: &mut String,
-    view: &ArrayView,
-    metric: Metric<OfArray>,
-) -> Result<(), AllocError> {
+fn of_array(lines: &mut Lines, view: &ArrayView, metric: Metric<OfArray>) {
     let (what, name, kind, words) = metric;
-    begin(text, name, kind, words)?;
+    lines.begin(name, kind, words);
     if let Some(amount) = amount_of_array(view, what) {
-        return put(text, name, &[], amount);
+        lines.put(name, &[], amount);
+        return;
     }
     match what {
-        OfArray::Build => build(text, name, view),
-        OfArray::ControllersDown => downs(text, name, &view.controllers),
-        OfArray::RefusedLogins => refused(text, name, &view.refused_logins),
-        OfArray::Sessions => sessions(text, name, &view.controllers),
-        _ => of_sessions(text, name, &view.sessions),
+        OfArray::Build => build(lines, name, view),
+        OfArray::ControllersDown => downs(lines, name, &view.controllers),
+        OfArray::RefusedLogins => refused(lines, name, &view.refused_logins),
+        OfArray::Sessions => sessions(lines, name, &view.controllers),
+        _ => of_sessions(lines, name, &view.sessions),
     }
 }
 
@@ -148,57 +146,44 @@ fn path_label(path: &PathView) -> Label<'static> {
 }
 
 // The disk of a unit, and what hosts know it by.
-fn disk(text: &mut String, name: &str, unit: &UnitView) -> Result<(), AllocError> {
+fn disk(lines: &mut Lines, name: &str, unit: &UnitView) {
     let disk = Label::Name("disk", unit.disk.as_bytes());
     let naa = Label::Word("naa", unit.naa.as_str());
     let wwid = Label::Word("wwid", unit.wwid.as_str());
     let serial = Label::Word("serial", unit.serial.as_str());
-    put(
-        text,
-        name,
-        &[unit_label(unit), disk, naa, wwid, serial],
-        Count(1),
-    )
+    lines.put(name, &[unit_label(unit), disk, naa, wwid, serial], Count(1));
 }
 
 // The calls of a file of a unit that failed.
-fn failures(
-    text: &mut String,
-    name: &str,
-    unit: &UnitView,
-    file: &str,
-    failures: &[NamedCount],
-) -> Result<(), AllocError> {
+fn failures(lines: &mut Lines, name: &str, unit: &UnitView, file: &str, failures: &[NamedCount]) {
     for tally in failures {
         let labels = &[
             unit_label(unit),
             Label::Word("file", file),
             Label::Word("call", tally.what),
         ];
-        put(text, name, labels, Count(tally.count))?;
+        lines.put(name, labels, Count(tally.count));
     }
-    Ok(())
 }
 
 // Those of both.
-fn all_failures(text: &mut String, name: &str, unit: &UnitView) -> Result<(), AllocError> {
-    failures(text, name, unit, "disk", &unit.disk_failures)?;
+fn all_failures(lines: &mut Lines, name: &str, unit: &UnitView) {
+    failures(lines, name, unit, "disk", &unit.disk_failures);
     failures(
-        text,
+        lines,
         name,
         unit,
         "registrations",
         &unit.registration_failures,
-    )
+    );
 }
 
 // What may be wrong with a unit.
-fn troubles(text: &mut String, name: &str, unit: &UnitView) -> Result<(), AllocError> {
+fn troubles(lines: &mut Lines, name: &str, unit: &UnitView) {
     for tally in &unit.troubles {
         let labels = &[unit_label(unit), Label::Word("trouble", tally.what)];
-        put(text, name, labels, Count(tally.count))?;
+        lines.put(name, labels, Count(tally.count));
     }
-    Ok(())
 }
 
 // What is measured of a unit, where it is one number.
@@ -222,42 +207,38 @@ fn amount_of(unit: &UnitView, what: OfUnit) -> Option<Amount> {
 }
 
 // It.
-fn of_unit(text: &mut String, name: &str, unit: &UnitView, what: OfUnit) -> Result<(), AllocError> {
+fn of_unit(lines: &mut Lines, name: &str, unit: &UnitView, what: OfUnit) {
     if let Some(amount) = amount_of(unit, what) {
-        return put(text, name, &[unit_label(unit)], amount);
+        lines.put(name, &[unit_label(unit)], amount);
+        return;
     }
     match what {
-        OfUnit::Disk => disk(text, name, unit),
-        OfUnit::Failures => all_failures(text, name, unit),
-        _ => troubles(text, name, unit),
+        OfUnit::Disk => disk(lines, name, unit),
+        OfUnit::Failures => all_failures(lines, name, unit),
+        _ => troubles(lines, name, unit),
     }
 }
 
 // A metric of each unit.
-fn of_units(
-    text: &mut String,
-    units: &[UnitView],
-    metric: Metric<OfUnit>,
-) -> Result<(), AllocError> {
+fn of_units(lines: &mut Lines, units: &[UnitView], metric: Metric<OfUnit>) {
     let (what, name, kind, words) = metric;
-    begin(text, name, kind, words)?;
+    lines.begin(name, kind, words);
     for unit in units {
-        of_unit(text, name, unit, what)?;
+        of_unit(lines, name, unit, what);
     }
-    Ok(())
 }
 
 // A count of a unit by a controller, with a label more.
 fn of_three(
-    text: &mut String,
+    lines: &mut Lines,
     name: &str,
     unit: &UnitView,
     path: &PathView,
     label: Label<'_>,
     number: u64,
-) -> Result<(), AllocError> {
+) {
     let labels = &[unit_label(unit), path_label(path), label];
-    put(text, name, labels, Count(number))
+    lines.put(name, labels, Count(number));
 }
 
 // How many commands ended with CHECK CONDITION and this sense key.
@@ -278,17 +259,11 @@ fn all_checks(commands: &Commands) -> u64 {
 }
 
 // The commands of a unit by a controller, by their operations.
-fn operations(
-    text: &mut String,
-    name: &str,
-    unit: &UnitView,
-    path: &PathView,
-) -> Result<(), AllocError> {
+fn operations(lines: &mut Lines, name: &str, unit: &UnitView, path: &PathView) {
     for tally in &path.commands.operations {
         let label = Label::Word("operation", tally.what);
-        of_three(text, name, unit, path, label, tally.count)?;
+        of_three(lines, name, unit, path, label, tally.count);
     }
-    Ok(())
 }
 
 // Commands by the status with which they ended.
@@ -302,26 +277,19 @@ fn ends(commands: &Commands) -> [(&'static str, u64); 4] {
 }
 
 // Those of a unit by a controller.
-fn statuses(
-    text: &mut String,
-    name: &str,
-    unit: &UnitView,
-    path: &PathView,
-) -> Result<(), AllocError> {
+fn statuses(lines: &mut Lines, name: &str, unit: &UnitView, path: &PathView) {
     for (status, count) in &ends(&path.commands) {
         let label = Label::Word("status", *status);
-        of_three(text, name, unit, path, label, *count)?;
+        of_three(lines, name, unit, path, label, *count);
     }
-    Ok(())
 }
 
 // Those that ended with CHECK CONDITION, by their sense key.
-fn keys(text: &mut String, name: &str, unit: &UnitView, path: &PathView) -> Result<(), AllocError> {
+fn keys(lines: &mut Lines, name: &str, unit: &UnitView, path: &PathView) {
     for (key, count) in path.commands.sense_keys.iter().enumerate() {
         let label = Label::Hex("sense_key", key as u64);
-        of_three(text, name, unit, path, label, *count)?;
+        of_three(lines, name, unit, path, label, *count);
     }
-    Ok(())
 }
 
 // The bound of a bucket of times.
@@ -333,35 +301,30 @@ fn bound_text(place: usize) -> &'static str {
 }
 
 // The buckets of the times that commands of a unit took by a controller; returns how many commands there were.
-fn buckets(text: &mut String, unit: &UnitView, path: &PathView) -> Result<u64, AllocError> {
+fn buckets(lines: &mut Lines, unit: &UnitView, path: &PathView) -> u64 {
     let mut all = 0u64;
     for (place, count) in path.commands.buckets.iter().enumerate() {
         all = all.wrapping_add(*count);
         let label = Label::Word("le", bound_text(place));
         of_three(
-            text,
+            lines,
             "arrayd_command_duration_seconds_bucket",
             unit,
             path,
             label,
             all,
-        )?;
+        );
     }
-    Ok(all)
+    all
 }
 
 // These times.
-fn times(text: &mut String, unit: &UnitView, path: &PathView) -> Result<(), AllocError> {
-    let all = buckets(text, unit, path)?;
+fn times(lines: &mut Lines, unit: &UnitView, path: &PathView) {
+    let all = buckets(lines, unit, path);
     let labels = &[unit_label(unit), path_label(path)];
     let sum = Micros(path.commands.micros);
-    put(text, "arrayd_command_duration_seconds_sum", labels, sum)?;
-    put(
-        text,
-        "arrayd_command_duration_seconds_count",
-        labels,
-        Count(all),
-    )
+    lines.put("arrayd_command_duration_seconds_sum", labels, sum);
+    lines.put("arrayd_command_duration_seconds_count", labels, Count(all));
 }
 
 // What is measured of a unit by a controller, where it is one number.
@@ -381,79 +344,68 @@ fn count_of(path: &PathView, what: OfPath) -> Option<u64> {
 }
 
 // It.
-fn of_path(
-    text: &mut String,
-    name: &str,
-    unit: &UnitView,
-    path: &PathView,
-    what: OfPath,
-) -> Result<(), AllocError> {
+fn of_path(lines: &mut Lines, name: &str, unit: &UnitView, path: &PathView, what: OfPath) {
     if let Some(count) = count_of(path, what) {
         let labels = &[unit_label(unit), path_label(path)];
-        return put(text, name, labels, Count(count));
+        lines.put(name, labels, Count(count));
+        return;
     }
     match what {
-        OfPath::Operations => operations(text, name, unit, path),
-        OfPath::Statuses => statuses(text, name, unit, path),
-        OfPath::SenseKeys => keys(text, name, unit, path),
-        _ => times(text, unit, path),
+        OfPath::Operations => operations(lines, name, unit, path),
+        OfPath::Statuses => statuses(lines, name, unit, path),
+        OfPath::SenseKeys => keys(lines, name, unit, path),
+        _ => times(lines, unit, path),
     }
 }
 
 // A metric of a unit by each controller.
-fn of_paths(
-    text: &mut String,
-    name: &str,
-    unit: &UnitView,
-    what: OfPath,
-) -> Result<(), AllocError> {
+fn of_paths(lines: &mut Lines, name: &str, unit: &UnitView, what: OfPath) {
     for path in &unit.paths {
-        of_path(text, name, unit, path, what)?;
+        of_path(lines, name, unit, path, what);
     }
-    Ok(())
 }
 
 // A metric of each unit by each controller.
-fn of_all_paths(
-    text: &mut String,
-    units: &[UnitView],
-    metric: Metric<OfPath>,
-) -> Result<(), AllocError> {
+fn of_all_paths(lines: &mut Lines, units: &[UnitView], metric: Metric<OfPath>) {
     let (what, name, kind, words) = metric;
-    begin(text, name, kind, words)?;
+    lines.begin(name, kind, words);
     for unit in units {
-        of_paths(text, name, unit, what)?;
+        of_paths(lines, name, unit, what);
     }
-    Ok(())
 }
 
 // All metrics of units, and all of units by controllers.
-fn all_of_units(text: &mut String, units: &[UnitView]) -> Result<(), AllocError> {
+fn all_of_units(lines: &mut Lines, units: &[UnitView]) {
     for metric in &OF_UNITS {
-        of_units(text, units, *metric)?;
+        of_units(lines, units, *metric);
     }
-    Ok(())
 }
 
-fn all_of_paths(text: &mut String, units: &[UnitView]) -> Result<(), AllocError> {
+fn all_of_paths(lines: &mut Lines, units: &[UnitView]) {
     for metric in &OF_ROUTES {
-        of_all_paths(text, units, *metric)?;
+        of_all_paths(lines, units, *metric);
     }
-    Ok(())
 }
 
 // Everything.
-fn all(text: &mut String, view: &ArrayView) -> Result<(), AllocError> {
+fn all(lines: &mut Lines, view: &ArrayView) {
     for metric in &OF_ARRAY {
-        of_array(text, view, *metric)?;
+        of_array(lines, view, *metric);
     }
-    all_of_units(text, &view.units)?;
-    all_of_paths(text, &view.units)
+    all_of_units(lines, &view.units);
+    all_of_paths(lines, &view.units);
 }
 
 /// What is measured of an array, in lines.
 pub fn metrics(alloc: Global, view: &ArrayView) -> Result<String, AllocError> {
-    let mut text = String::new(alloc);
-    all(&mut text, view)?;
-    Ok(text)
+    let mut lines = Lines {
+        text: String::new(alloc),
+        are_whole: true,
+    };
+    all(&mut lines, view);
+    if lines.are_whole {
+        Ok(lines.text)
+    } else {
+        Err(AllocError)
+    }
 }

@@ -2,7 +2,7 @@
 
 use crate::made::tallies;
 use crate::view::{ArrayView, Controller, FailureView, NamedCount, PathView, UnitView};
-use events::{Call, Stamp, error_text};
+use events::{Stamp, error_text};
 use meters::{CALLS_IN_ORDER, Failures, UnitHappenings};
 use std::alloc::{AllocError, Global};
 use std::time::Duration;
@@ -127,16 +127,15 @@ impl Trouble {
 
     // Whether it is these calls that make it so.
     fn is_by(self, failure: &FailureView) -> bool {
+        let is_of_disk = failure.file == DISK;
         let is_flush = failure.call == FLUSH;
         let is_hung = failure.call == HUNG;
         match self {
-            Trouble::Hangs => is_hung && failure.is_now && failure.file == DISK,
-            Trouble::FlushesLost => is_flush && failure.file == DISK,
-            Trouble::CallsFailed => {
-                failure.is_now && failure.file == DISK && !is_flush && !is_hung
-            }
-            Trouble::SavesHang => is_hung && failure.is_now && failure.file == REGISTRATIONS,
-            Trouble::Unsaved => failure.is_now && failure.file == REGISTRATIONS && !is_hung,
+            Trouble::Hangs => is_of_disk && is_hung && failure.is_now,
+            Trouble::FlushesLost => is_of_disk && is_flush,
+            Trouble::CallsFailed => is_of_disk && !is_flush && !is_hung && failure.is_now,
+            Trouble::SavesHang => !is_of_disk && is_hung && failure.is_now,
+            Trouble::Unsaved => !is_of_disk && !is_hung && failure.is_now,
             Trouble::AnswersLate | Trouble::Slow | Trouble::Grew => false,
         }
     }
@@ -282,19 +281,43 @@ fn failure_view(
     }
 }
 
-// Those of a file that there were.
+// Notes calls of a kind on a file that failed, where there were any.
 fn note_failures(
+    views: &mut Vec<FailureView>,
+    origin: u64,
+    file: &'static str,
+    call: &'static str,
+    failures: &Failures,
+) -> Result<(), AllocError> {
+    if failures.count != 0 {
+        views.push(failure_view(origin, file, call, failures))?;
+    }
+    Ok(())
+}
+
+// Notes those of each kind.
+fn note_calls(
     views: &mut Vec<FailureView>,
     origin: u64,
     file: &'static str,
     calls: &[Failures],
 ) -> Result<(), AllocError> {
-    for (call, failures) in CALLS_IN_ORDER.map(Call::text).iter().zip(calls) {
-        if failures.count != 0 {
-            views.push(failure_view(origin, file, *call, failures))?;
-        }
+    for (call, failures) in CALLS_IN_ORDER.iter().zip(calls) {
+        note_failures(views, origin, file, call.text(), failures)?;
     }
     Ok(())
+}
+
+// Notes those of both files, and behind them those that took longer than the deadline.
+fn note_all(
+    views: &mut Vec<FailureView>,
+    origin: u64,
+    seen: &UnitHappenings,
+) -> Result<(), AllocError> {
+    note_calls(views, origin, DISK, &seen.disk)?;
+    note_calls(views, origin, REGISTRATIONS, &seen.registrations)?;
+    note_failures(views, origin, DISK, HUNG, &seen.disk_hung)?;
+    note_failures(views, origin, REGISTRATIONS, HUNG, &seen.registrations_hung)
 }
 
 /// What failed of a unit, also what is over, by a clock that began so many microseconds after the beginning of 1970.
@@ -304,16 +327,7 @@ pub fn failure_views(
     seen: &UnitHappenings,
 ) -> Result<Vec<FailureView>, AllocError> {
     let mut views = Vec::new(alloc);
-    note_failures(&mut views, origin, DISK, &seen.disk)?;
-    note_failures(&mut views, origin, REGISTRATIONS, &seen.registrations)?;
-    for (file, hung) in [
-        (DISK, &seen.disk_hung),
-        (REGISTRATIONS, &seen.registrations_hung),
-    ] {
-        if hung.count != 0 {
-            views.push(failure_view(origin, file, HUNG, hung))?;
-        }
-    }
+    note_all(&mut views, origin, seen)?;
     Ok(views)
 }
 
@@ -343,79 +357,87 @@ fn put_failure(text: &mut String, failure: &FailureView) -> Result<(), AllocErro
     put_second(text, " last=", failure.last)
 }
 
-// Notes a sentence about the unit of this number, and what failed.
-fn note(
+// Sentences that are noted, and whether all of them could be.
+#[derive(Drop)]
+struct Sentences {
     alloc: Global,
-    problems: &mut Vec<String>,
+    noted: Vec<String>,
+    are_all: bool,
+}
+
+impl Sentences {
+    fn new(alloc: Global) -> Sentences {
+        Sentences {
+            alloc,
+            noted: Vec::new(alloc),
+            are_all: true,
+        }
+    }
+
+    fn note(&mut self, sentence: Result<String, AllocError>) {
+        match sentence {
+            Ok(sentence) => self.are_all = self.are_all && self.noted.push(sentence).is_ok(),
+            Err(_) => self.are_all = false,
+        }
+    }
+
+    fn end(self) -> Result<Vec<String>, AllocError> {
+        if self.are_all {
+            Ok(self.noted)
+        } else {
+            Err(AllocError)
+        }
+    }
+}
+
+// A sentence about the unit of this number, and what failed.
+fn of_failure(
+    alloc: Global,
     number: u64,
     sentence: &str,
     culprit: Option<&FailureView>,
-) -> Result<(), AllocError> {
+) -> Result<String, AllocError> {
     let mut text = format!(in alloc; "unit {number}: {sentence}")?;
     if let Some(failure) = culprit {
         put_failure(&mut text, failure)?;
     }
-    problems.push(text)?;
-    Ok(())
+    Ok(text)
 }
 
 // Notes a sentence for each call that makes this so of a unit: how many.
-fn note_culprits(
-    alloc: Global,
-    problems: &mut Vec<String>,
-    unit: &UnitView,
-    trouble: Trouble,
-) -> Result<usize, AllocError> {
+fn note_culprits(problems: &mut Sentences, unit: &UnitView, trouble: Trouble) -> usize {
     let mut count = 0usize;
     for failure in &unit.failures {
         if trouble.is_by(failure)
             && let Some(sentence) = trouble.sentence(Some(failure))
         {
-            note(alloc, problems, unit.unit, sentence, Some(failure))?;
+            problems.note(of_failure(problems.alloc, unit.unit, sentence, Some(failure)));
             count = count.saturating_add(1);
         }
     }
-    Ok(count)
+    count
 }
 
 // Notes that this is wrong with a unit, where something is to be told of it.
-fn note_trouble(
-    alloc: Global,
-    problems: &mut Vec<String>,
-    unit: &UnitView,
-    trouble: Trouble,
-) -> Result<(), AllocError> {
-    if note_culprits(alloc, problems, unit, trouble)? == 0
+fn note_trouble(problems: &mut Sentences, unit: &UnitView, trouble: Trouble) {
+    if note_culprits(problems, unit, trouble) == 0
         && let Some(sentence) = trouble.sentence(None)
     {
-        note(alloc, problems, unit.unit, sentence, None)?;
+        problems.note(of_failure(problems.alloc, unit.unit, sentence, None));
     }
-    Ok(())
 }
 
 // Notes what is wrong with a unit.
-fn of_unit(alloc: Global, problems: &mut Vec<String>, unit: &UnitView) -> Result<(), AllocError> {
+fn of_unit(problems: &mut Sentences, unit: &UnitView) {
     if unit.owner != 1 && unit.owner != 2 {
-        note(alloc, problems, unit.unit, "no controller owns it", None)?;
+        let sentence = "no controller owns it";
+        problems.note(of_failure(problems.alloc, unit.unit, sentence, None));
     }
     for (trouble, tally) in ALL.iter().zip(&unit.troubles) {
         if tally.count != 0 {
-            note_trouble(alloc, problems, unit, *trouble)?;
+            note_trouble(problems, unit, *trouble);
         }
     }
-    Ok(())
-}
-
-// Notes what is wrong with units.
-fn of_units(
-    alloc: Global,
-    problems: &mut Vec<String>,
-    units: &[UnitView],
-) -> Result<(), AllocError> {
-    for unit in units {
-        of_unit(alloc, problems, unit)?;
-    }
-    Ok(())
 }
 
 /// What is wrong with these units, with an array that ends, and with a log that cannot be written, a sentence each.
@@ -425,15 +447,17 @@ pub fn problems(
     is_stopping: bool,
     log_fails: bool,
 ) -> Result<Vec<String>, AllocError> {
-    let mut problems = Vec::new(alloc);
+    let mut problems = Sentences::new(alloc);
     if is_stopping {
-        problems.push(format!(in alloc; "The array ends: it takes no command in any more.")?)?;
+        problems.note(format!(in alloc; "The array ends: it takes no command in any more."));
     }
     if log_fails {
-        problems.push(format!(in alloc; "The log cannot be written.")?)?;
+        problems.note(format!(in alloc; "The log cannot be written."));
     }
-    of_units(alloc, &mut problems, units)?;
-    Ok(problems)
+    for unit in units {
+        of_unit(&mut problems, unit);
+    }
+    problems.end()
 }
 
 // Whether a controller is down.
@@ -447,31 +471,30 @@ fn is_down(controllers: &[Controller], number: u64) -> bool {
 }
 
 // Notes a path to a unit by which it is not served, though its controller serves others.
-fn note_path(
-    alloc: Global,
-    degraded: &mut Vec<String>,
-    unit: u64,
-    path: &PathView,
-) -> Result<(), AllocError> {
+fn note_path(degraded: &mut Sentences, unit: u64, path: &PathView) {
     let (controller, state) = (path.controller, path.state_words);
-    let text = format!(in alloc; "unit {unit} is not served by controller {controller}: {state}")?;
-    degraded.push(text)?;
-    Ok(())
+    degraded.note(format!(in degraded.alloc;
+        "unit {unit} is not served by controller {controller}: {state}"
+    ));
 }
 
 // Notes the paths to a unit by which it is not served, but for those of a controller that is down.
-fn note_paths(
-    alloc: Global,
-    degraded: &mut Vec<String>,
-    unit: &UnitView,
-    controllers: &[Controller],
-) -> Result<(), AllocError> {
+fn note_paths(degraded: &mut Sentences, unit: &UnitView, controllers: &[Controller]) {
     for path in &unit.paths {
         if !path.is_served() && !is_down(controllers, path.controller) {
-            note_path(alloc, degraded, unit.unit, path)?;
+            note_path(degraded, unit.unit, path);
         }
     }
-    Ok(())
+}
+
+// Notes a controller that is down.
+fn note_down(degraded: &mut Sentences, controller: &Controller) {
+    if controller.is_down {
+        let number = controller.controller;
+        degraded.note(format!(in degraded.alloc;
+            "controller {number} is down: no unit is served by it"
+        ));
+    }
 }
 
 /// What is served, but by less than there is, a sentence each.
@@ -480,35 +503,37 @@ pub fn degraded(
     units: &[UnitView],
     controllers: &[Controller],
 ) -> Result<Vec<String>, AllocError> {
-    let mut degraded = Vec::new(alloc);
+    let mut degraded = Sentences::new(alloc);
     for controller in controllers {
-        if controller.is_down {
-            let number = controller.controller;
-            degraded.push(format!(in alloc;
-                "controller {number} is down: no unit is served by it"
-            )?)?;
-        }
+        note_down(&mut degraded, controller);
     }
     for unit in units {
-        note_paths(alloc, &mut degraded, unit, controllers)?;
+        note_paths(&mut degraded, unit, controllers);
     }
-    Ok(degraded)
+    degraded.end()
+}
+
+// Puts lines behind a text, each with this front.
+fn put_lines(text: &mut String, front: &str, lines: &[String]) -> Result<(), AllocError> {
+    for line in lines {
+        writeln!(text, "{front}{line}")?;
+    }
+    Ok(())
+}
+
+// Puts a line for each thing that is wrong, and for each that is degraded; `ok`, where nothing is.
+fn put_health(text: &mut String, view: &ArrayView) -> Result<(), AllocError> {
+    put_lines(text, "", &view.problems)?;
+    put_lines(text, "degraded: ", &view.degraded)?;
+    if text.is_empty() {
+        text.push_str("ok\n")?;
+    }
+    Ok(())
 }
 
 /// What is answered to who asks whether an array is well: `ok`, or a line for each thing that is wrong, and for each that is degraded.
 pub fn health(alloc: Global, view: &ArrayView) -> Result<String, AllocError> {
     let mut text = String::new(alloc);
-    for problem in &view.problems {
-        text.push_str(problem.as_str())?;
-        text.push_str("\n")?;
-    }
-    for line in &view.degraded {
-        text.push_str("degraded: ")?;
-        text.push_str(line.as_str())?;
-        text.push_str("\n")?;
-    }
-    if text.is_empty() {
-        text.push_str("ok\n")?;
-    }
+    put_health(&mut text, view)?;
     Ok(text)
 }
