@@ -85,24 +85,22 @@ impl Waiting {
     // Keeps the line of an event, or counts it among those of which one line tells how many they are. False: there was no room for it.
     fn take(&mut self, event: &Event<'_>) -> bool {
         let now = self.now.as_secs();
-        let is_told = match event {
-            Event::ConnectionEnded(..) => self.strangers.is_told(now),
-            Event::LoginRefused(..) => self.refused.is_told(now),
+        let spell = match event {
+            Event::ConnectionEnded(..) => &mut self.strangers,
+            Event::LoginRefused(..) => &mut self.refused,
             Event::LoggedIn(_, _, _, SessionType::Discovery)
-            | Event::SessionEnded(_, _, _, SessionType::Discovery, _) => {
-                self.discoveries.is_told(now)
-            }
+            | Event::SessionEnded(_, _, _, SessionType::Discovery, _) => &mut self.discoveries,
             Event::LoggedIn(..)
             | Event::SessionEnded(..)
             | Event::GroupsSet(_, _, _, _, By::Session(_))
             | Event::NotMoved(_, _, _, By::Session(_))
             | Event::CommandFailed(..)
-            | Event::Busy(..) => self.hosts.is_told(now),
-            Event::Reserved(..) | Event::Reset(..) => self.fences.is_told(now),
-            Event::DeviceFailed(..) => self.failures.is_told(now),
-            _ => true,
+            | Event::Busy(..) => &mut self.hosts,
+            Event::Reserved(..) | Event::Reset(..) => &mut self.fences,
+            Event::DeviceFailed(..) => &mut self.failures,
+            _ => return self.keep(event),
         };
-        !is_told || self.keep(event)
+        !spell.is_told(now) || self.keep(event)
     }
 
     /// How many lines were not kept of what hosts do that are in, and of what came of it, where the spell is over, or the log ends.
@@ -297,10 +295,7 @@ impl Log {
             None => None,
             Some(shared) => Some(Arc::try_clone(shared)?),
         };
-        let meters = match &self.meters {
-            None => None,
-            Some(meters) => Some(Arc::try_clone(meters)?),
-        };
+        let meters = self.shared_meters()?;
         Ok(Log { shared, meters })
     }
 

@@ -99,9 +99,7 @@ fn take<R: Wait + Clock>(rt: &R, shared: &Shared, lines: &mut String, is_last: b
         .swap(0, Ordering::SeqCst)
         .saturating_add(untold)
         .saturating_add(hosts);
-    if dropped != 0 {
-        let _ = put_line(lines, now, &Event::Dropped(dropped));
-    }
+    put_sum(lines, now, dropped, &Event::Dropped(dropped));
     dropped
 }
 
