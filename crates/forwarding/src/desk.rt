@@ -25,7 +25,7 @@ pub const LONGEST_COPY: usize = 256;
 const AT_ONCE: u64 = 4;
 
 /// Why a desk does not take a job.
-#[derive(Clone, Copy, Debug, PartialEq, Eq, Error)]
+#[derive(Clone, Copy, Debug, Error)]
 pub enum DeskFault {
     /// 64 jobs wait.
     #[error("the desk is full")]
@@ -36,6 +36,15 @@ pub enum DeskFault {
     /// There was no memory.
     #[error("no memory")]
     NoMemory,
+}
+
+impl From<NotQueued> for DeskFault {
+    fn from(why: NotQueued) -> DeskFault {
+        match why {
+            NotQueued::Full => DeskFault::Full,
+            NotQueued::Closed => DeskFault::Closed,
+        }
+    }
 }
 
 /// What a command comes to: its pass, and what the unit said, or why the desk asked no unit.
@@ -94,6 +103,19 @@ fn index_of<B: Blocks, F: Blocks, O: Opener<B>, N: ArrayNaming<Opened>>(
     None
 }
 
+// Lets a command wait behind those that came before: whether others wait.
+fn enqueue<B: Blocks, F: Blocks, O: Opener<B>, N: ArrayNaming<Opened>>(
+    queue: &mut Queue<Waiting<B, F, O, N>>,
+    waiting: Waiting<B, F, O, N>,
+) -> Result<bool, (DeskFault, Pass<B, F, O, N>, ReplyMemory)>
+    ensures { IfErr result (λ e. e.1 ≡ waiting.pass) }
+{
+    match queue.push(waiting) {
+        Ok(()) => Ok(queue.len() > 1),
+        Err((why, waiting)) => Err((DeskFault::from(why), waiting.pass, waiting.room)),
+    }
+}
+
 impl<B: Blocks, F: Blocks, O: Opener<B>, N: ArrayNaming<Opened>> Desk<B, F, O, N> {
     /// The desk of a group, with 64 places, which are taken now.
     pub fn new(alloc: Global, group: Group) -> Result<Desk<B, F, O, N>, NoMemory>
@@ -118,30 +140,6 @@ impl<B: Blocks, F: Blocks, O: Opener<B>, N: ArrayNaming<Opened>> Desk<B, F, O, N
         self.group
     }
 
-    // Lets a command wait behind those that came before. A lane is woken where others wait.
-    fn put<W: Wait>(
-        &self,
-        rt: &W,
-        waiting: Waiting<B, F, O, N>,
-    ) -> Result<(), (DeskFault, Pass<B, F, O, N>, ReplyMemory)>
-        ensures { IfErr result (λ e. e.1 ≡ waiting.pass) }
-    {
-        let mut queue = self.queue.lock(rt);
-        if let Err((why, waiting)) = queue.push(waiting) {
-            let fault = match why {
-                NotQueued::Full => DeskFault::Full,
-                NotQueued::Closed => DeskFault::Closed,
-            };
-            return Err((fault, waiting.pass, waiting.room));
-        }
-        let others_wait = queue.len() > 1;
-        drop(queue);
-        if others_wait {
-            self.filled.notify_one();
-        }
-        Ok(())
-    }
-
     /// Hands a command of a session in, with a copy of its data: its job waits behind those that came before, and has the memory for its
     /// reply. Refused, the pass and this memory are handed back.
     pub fn submit<'a, W: Wait>(
@@ -157,10 +155,17 @@ impl<B: Blocks, F: Blocks, O: Opener<B>, N: ArrayNaming<Opened>> Desk<B, F, O, N
     {
         let (ticket, waiting) = match prepare(room, pass, asked, bytes, self.group) {
             Ok(both) => both,
-            Err((pass, room)) => return Err((DeskFault::NoMemory, pass, room)),
+            Err(refused) => return Err(refused),
         };
-        match self.put(rt, waiting) {
-            Ok(()) => Ok(ticket),
+        let queued = enqueue(&mut self.queue.lock(rt), waiting);
+        match queued {
+            Ok(others_wait) => {
+                // A lane is woken where others wait.
+                if others_wait {
+                    self.filled.notify_one();
+                }
+                Ok(ticket)
+            }
             Err(refused) => Err(refused),
         }
     }
@@ -292,8 +297,7 @@ impl<B: Blocks, F: Blocks, O: Opener<B>, N: ArrayNaming<Opened>> Desk<B, F, O, N
             Err((DeskFault::NoMemory, pass, room)) => {
                 self.serve_at_once(rt, room, units, pass, asked, bytes)
             }
-            Err((DeskFault::Full, pass, _)) => (pass, Err(DeskFault::Full)),
-            Err((DeskFault::Closed, pass, _)) => (pass, Err(DeskFault::Closed)),
+            Err((fault, pass, _)) => (pass, Err(fault)),
         }
     }
 

@@ -4,6 +4,7 @@ ghost use Rattle.forwarding.specs.Served.{HasAnsweredJob, handed, handed_of};
 ghost use Rattle.forwarding.specs.Jobs.{IsFor};
 ghost use Rattle.unit_entries.specs.Devices.{devices};
 
+use crate::desk::DeskFault;
 use crate::names::{are_of, named, serve_named};
 use array_units::Units;
 use block_file::{Blocks, Opener, ReplyMemory};
@@ -323,17 +324,20 @@ pub(crate) fn prepare<'a, B: Blocks, F: Blocks, O: Opener<B>, N: ArrayNaming<Ope
     asked: &Asked,
     bytes: &'a [u8],
     by_group: Group,
-) -> Result<(Ticket<'a, B, F, O, N>, Waiting<B, F, O, N>), (Pass<B, F, O, N>, ReplyMemory)>
+) -> Result<
+    (Ticket<'a, B, F, O, N>, Waiting<B, F, O, N>),
+    (DeskFault, Pass<B, F, O, N>, ReplyMemory),
+>
     ensures ticket { IfOk result (λ r. r.0 ≡ handed_of pass asked.now bytes.now by_group) }
     ensures pass { IfOk result (λ r. r.1.pass ≡ pass) }
     ensures waits { IfOk result (λ r. handed_of r.1.pass r.1.asked r.1.bytes.items by_group ≡ r.0) }
-    ensures back { IfErr result (λ back. back.0 ≡ pass) }
+    ensures back { IfErr result (λ back. back.1 ≡ pass) }
 {
     let Ok(copy) = bytes.to_vec(room.alloc()) else {
-        return Err((pass, room));
+        return Err((DeskFault::NoMemory, pass, room));
     };
     let Ok((mine, mailbox)) = Mailbox::shared(room.alloc()) else {
-        return Err((pass, room));
+        return Err((DeskFault::NoMemory, pass, room));
     };
     let ticket = Ticket {
         names: named(&pass, asked, by_group),

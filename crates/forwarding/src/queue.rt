@@ -10,7 +10,7 @@ use std::marker::Model;
 pub const MOST_JOBS: usize = 64;
 
 /// Why something is not queued.
-#[derive(Clone, Copy, PartialEq, Eq)]
+#[derive(Clone, Copy)]
 pub enum NotQueued {
     /// As much waits as there is room for.
     Full,
