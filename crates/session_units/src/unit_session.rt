@@ -9,7 +9,6 @@ use crate::memory::Rooms;
 use crate::units::{LogicalUnits, Pass, Unserved};
 use block_file::ReplyMemory;
 use disk_preparer::Account;
-use forwarding::DeskFault;
 use scsi_types::{Asked, Group, Reply};
 use session::{ResetAnswer, TargetAnswer};
 use std::marker::Model;
@@ -47,11 +46,7 @@ fn answered(end: Result<Reply, Unserved>) -> TargetAnswer
     match end {
         Ok(reply) => TargetAnswer::Replied(reply),
         Err(Unserved::ByUnit(Refused::Gone)) => TargetAnswer::Gone,
-        Err(Unserved::ByUnit(Refused::Moved(_))) => TargetAnswer::Busy,
-        Err(Unserved::ByUnit(Refused::NoMemory)) => TargetAnswer::Busy,
-        Err(Unserved::ByDesk(DeskFault::Full)) => TargetAnswer::Busy,
-        Err(Unserved::ByDesk(DeskFault::Closed)) => TargetAnswer::Busy,
-        Err(Unserved::ByDesk(DeskFault::NoMemory)) => TargetAnswer::Busy,
+        Err(_) => TargetAnswer::Busy,
     }
 }
 
