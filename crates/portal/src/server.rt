@@ -111,6 +111,19 @@ fn v4(address: io::Result<SocketAddr>) -> SocketAddrV4 {
     }
 }
 
+// Why a connection was cut off, as the log tells it: who did it, where that is known, or else this.
+fn cut_off(visitor: &Visitor, is_lost: bool, otherwise: Why) -> Why {
+    if visitor.was_shut {
+        Why::ByConsole
+    } else if visitor.is_replaced {
+        Why::Replaced
+    } else if is_lost {
+        Why::PushedOut
+    } else {
+        otherwise
+    }
+}
+
 // Why a session or a connection ended, as the log tells it, or the status with which its login was refused; also where its place was lost
 // to a connection that came later.
 fn why(end: End, visitor: &Visitor, is_lost: bool) -> Result<Why, u16> {
@@ -124,16 +137,9 @@ fn why(end: End, visitor: &Visitor, is_lost: bool) -> Result<Why, u16> {
         } => Ok(Why::Rejected(reason, opcode, tag)),
         End::Gap => Ok(Why::Gap),
         End::Reinstated => Ok(Why::Replaced),
-        End::EndOfInput | End::InputFailed | End::OutputFailed if visitor.was_shut => {
-            Ok(Why::ByConsole)
-        }
-        End::EndOfInput | End::InputFailed | End::OutputFailed if visitor.is_replaced => {
-            Ok(Why::Replaced)
-        }
-        End::EndOfInput | End::InputFailed | End::OutputFailed if is_lost => Ok(Why::PushedOut),
-        End::EndOfInput => Ok(Why::Closed),
-        End::InputFailed => Ok(Why::InputFailed),
-        End::OutputFailed => Ok(Why::OutputFailed),
+        End::EndOfInput => Ok(cut_off(visitor, is_lost, Why::Closed)),
+        End::InputFailed => Ok(cut_off(visitor, is_lost, Why::InputFailed)),
+        End::OutputFailed => Ok(cut_off(visitor, is_lost, Why::OutputFailed)),
     }
 }
 
