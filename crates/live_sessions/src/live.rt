@@ -45,7 +45,7 @@ impl<C> Handled for LiveSession<C> {
 }
 
 /// Why a session does not begin to live. Nothing has changed.
-#[derive(Clone, Copy, Debug, PartialEq, Eq, Error)]
+#[derive(Clone, Copy, Debug, Error)]
 pub enum EnterFault {
     /// A session has each TSIH.
     #[error("no TSIH is free")]

@@ -29,7 +29,7 @@ use std::time::Duration;
 const BETWEEN: u64 = 5;
 
 /// Why a session does not begin. It is attached to no unit.
-#[derive(Clone, Copy, PartialEq, Eq)]
+#[derive(Clone, Copy)]
 pub enum BeginFault {
     /// It was asked before.
     Begun,
