@@ -74,9 +74,13 @@ impl<E, S, X: Machine<E, S>, N: ArrayNaming<S>, const U: usize> LockedUnit<E, S,
         let row = object.row();
         let NewLocked { history, board } = new;
         let (posted, mut records) = Records::open::<R>(rt, history, board, row);
-        let seats = records.seats(alloc, &posted, seats)?;
+        let seats = records.seats(alloc, &posted, seats);
         let locked = CachePadded::new(Mutex::new(Locked::new(object, records)));
-        Ok((LockedUnit { posted, locked }, seats))
+        let unit = LockedUnit { posted, locked };
+        match seats {
+            Ok(seats) => Ok((unit, seats)),
+            Err(why) => Err(why),
+        }
     }
 
     /// The unit under its lock, once no other thread has it.
@@ -106,7 +110,8 @@ impl<E, S, X: Machine<E, S>, N: ArrayNaming<S>, const U: usize> LockedUnit<E, S,
             × (p.pass.session ≡ length h) × (p.pass.serial ≡ 1) × X.legal (N.opening U) p.pass.seen) }
         ensures full { IfErr result (λ f. (f.0 ≡ U) × X.full (N.opening U) f.1 name × X.legal (N.opening U) f.1) }
     {
-        match self.lock(rt).attach(rt, &self.posted, name) {
+        let attached = self.lock(rt).attach(rt, &self.posted, name);
+        match attached {
             Ok(pass) => Ok(Pass::of::<U>(pass)),
             Err(seen) => Err(LegalHistory::of::<U>(seen)),
         }
@@ -172,7 +177,8 @@ impl<E, S, X: Machine<E, S>, N: ArrayNaming<S>, const U: usize> LockedUnit<E, S,
             × X.gone (N.opening U) p.pass.seen pass.pass.session) }
     {
         let pass = pass.at::<U>();
-        match self.lock(rt).retire(rt, &self.posted, pass) {
+        let retired = self.lock(rt).retire(rt, &self.posted, pass);
+        match retired {
             Ok(seen) => Ok(LegalHistory::of::<U>(seen)),
             Err(pass) => Err(Pass::of::<U>(pass)),
         }
