@@ -78,15 +78,23 @@ fn any_seated<B: Blocks, F: Blocks, O: Opener<B>, N: ArrayNaming<Opened>, W: Wai
     requires place { place < 8 }
     ensures { IfOk result (λ unit. place_of unit ≡ place) }
 {
+    macro_rules! seat {
+        ($variant:ident) => {
+            match seated(rt, alloc, new) {
+                Ok(unit) => Ok(AnyUnit::$variant(unit)),
+                Err(why) => Err(why),
+            }
+        };
+    }
     match place {
-        0 => Ok(AnyUnit::Zero(seated(rt, alloc, new)?)),
-        1 => Ok(AnyUnit::One(seated(rt, alloc, new)?)),
-        2 => Ok(AnyUnit::Two(seated(rt, alloc, new)?)),
-        3 => Ok(AnyUnit::Three(seated(rt, alloc, new)?)),
-        4 => Ok(AnyUnit::Four(seated(rt, alloc, new)?)),
-        5 => Ok(AnyUnit::Five(seated(rt, alloc, new)?)),
-        6 => Ok(AnyUnit::Six(seated(rt, alloc, new)?)),
-        7 => Ok(AnyUnit::Seven(seated(rt, alloc, new)?)),
+        0 => seat!(Zero),
+        1 => seat!(One),
+        2 => seat!(Two),
+        3 => seat!(Three),
+        4 => seat!(Four),
+        5 => seat!(Five),
+        6 => seat!(Six),
+        7 => seat!(Seven),
         _ => unreachable!(),
     }
 }
