@@ -268,7 +268,6 @@ impl<'a, R: Wait + Clock, U: LogicalUnits + Drop, G: Gate + Drop, S: Sessions + 
         let (lives, was_shut) = (self.target.is_live(), self.target.was_shut());
         self.visitor.end(lives, was_shut);
         self.target.end();
-        self.observer.leave();
     }
 
     fn wants_prefetch(&self) -> bool {

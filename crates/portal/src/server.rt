@@ -191,7 +191,7 @@ fn serve_as<R: Wait + Clock, U: LogicalUnits + Drop, G: Gate + Drop>(
     );
     let mut source = KeptSource::new(alloc, timed, &observer);
     let mut sink = ObservedSink::new(Watched::new(stream), &observer);
-    match serve_session::<
+    let served = match serve_session::<
         R,
         U,
         G,
@@ -217,7 +217,10 @@ fn serve_as<R: Wait + Clock, U: LogicalUnits + Drop, G: Gate + Drop>(
             Ok(())
         }
         Err(NoMemory) => Err(NoMemory),
-    }
+    };
+    // Who is no longer counted among those that are in has left the log its line.
+    observer.leave();
+    served
 }
 
 // Serves the session of a connection.
