@@ -1,9 +1,10 @@
 //! What is counted of an array, and when what failed is over.
-use crate::ends::must;
+use crate::ends::{must, must_read};
 use event_log::{Log, start_ticks};
 use events::{Call, Event, Operation, Part, Place};
 use meters::{CALLS_IN_ORDER, Counts, Ended, Failures, Happenings, Meters, Served, UnitHappenings};
-use std::alloc::{AllocError, Global};
+use std::alloc::Global;
+use std::process::Abort;
 use std::sync::{Arc, Wait};
 use std::test::*;
 use std::time::Duration;
@@ -81,158 +82,156 @@ fn make(log: &Log, step: Step) {
 
 // Puts what failed of a kind behind a text, where something did.
 fn put(
+    rt: &impl Abort,
     text: &mut String,
     unit: usize,
     what: &str,
     call: &str,
     failures: &Failures,
-) -> Result<(), AllocError> {
-    if failures.count == 0 {
-        return Ok(());
+) {
+    if failures.count != 0 {
+        let (count, when) = (failures.count, if failures.is_now { "now" } else { "over" });
+        write!(text, "{unit} {what} {call} {count} {when};").expect(rt, "memory");
     }
-    let (count, when) = (failures.count, if failures.is_now { "now" } else { "over" });
-    write!(text, "{unit} {what} {call} {count} {when};")
 }
 
 // The same of all calls on a file.
-fn put_file(
-    text: &mut String,
-    unit: usize,
-    what: &str,
-    calls: &[Failures],
-) -> Result<(), AllocError> {
+fn put_file(rt: &impl Abort, text: &mut String, unit: usize, what: &str, calls: &[Failures]) {
     for (call, failures) in CALLS_IN_ORDER.iter().zip(calls) {
-        put(text, unit, what, call.text(), failures)?;
+        put(rt, text, unit, what, call.text(), failures);
     }
-    Ok(())
 }
 
-fn put_unit(text: &mut String, unit: usize, seen: &UnitHappenings) -> Result<(), AllocError> {
-    put_file(text, unit, "disk", &seen.disk)?;
-    put_file(text, unit, "file", &seen.registrations)?;
-    put(text, unit, "disk", "hung", &seen.disk_hung)?;
-    put(text, unit, "file", "hung", &seen.registrations_hung)?;
+fn put_unit(rt: &impl Abort, text: &mut String, unit: usize, seen: &UnitHappenings) {
+    put_file(rt, text, unit, "disk", &seen.disk);
+    put_file(rt, text, unit, "file", &seen.registrations);
+    put(rt, text, unit, "disk", "hung", &seen.disk_hung);
+    put(rt, text, unit, "file", "hung", &seen.registrations_hung);
     let grew = seen.grew;
     if grew != 0 {
-        write!(text, "{unit} grew {grew};")?;
+        write!(text, "{unit} grew {grew};").expect(rt, "memory");
     }
-    Ok(())
 }
 
-fn text_of(alloc: Global, seen: &Happenings) -> Result<String, AllocError> {
+fn text_of(rt: &impl Abort, alloc: Global, seen: &Happenings) -> String {
     let mut text = String::new(alloc);
     for (unit, seen) in seen.units.iter().enumerate() {
-        put_unit(&mut text, unit, seen)?;
+        put_unit(rt, &mut text, unit, seen);
     }
-    Ok(text)
+    text
 }
 
-// What is seen of two units behind these steps.
-fn seen_behind<R: Wait>(rt: &R, alloc: Global, steps: &[Step]) -> Result<String, Fail> {
-    let meters = Arc::new(alloc, Meters::new(alloc, 2)?)?;
-    let log = Log::off().counting(meters);
-    for step in steps {
-        make(&log, *step);
-    }
-    match log.meters() {
-        Some(meters) => {
-            let seen = meters.look(rt, alloc, Duration::ZERO)?;
-            Ok(text_of(alloc, &seen.happened)?)
-        }
-        None => Ok(String::new(alloc)),
-    }
+// A log of so many units that is not written, and counts.
+fn counting(rt: &impl Abort, alloc: Global, units: usize) -> Log {
+    let meters = Meters::new(alloc, units).expect(rt, "memory");
+    Log::off().counting(Arc::new(alloc, meters).expect(rt, "memory"))
 }
+
+// What it has counted.
+fn happened<R: Wait + Abort>(rt: &R, alloc: Global, log: &Log) -> Happenings {
+    let meters = log.meters().expect(rt, "a log that counts");
+    meters
+        .look(rt, alloc, Duration::ZERO)
+        .expect(rt, "memory")
+        .happened
+}
+
+// What happens to files of two units, and what is told of them then.
+const HAPPENINGS: [(&[Step], &str); 25] = [
+    (&[], ""),
+    // Of its own unit, and no growth.
+    (&[Hangs(1)], "1 disk hung 1 now;"),
+    // A file that is back is none that hangs, and says nothing of the other.
+    (&[SaveHangs(0)], "0 file hung 1 now;"),
+    (
+        &[Hangs(0), SaveHangs(0), IsBack(0, Call::Read)],
+        "0 disk hung 1 now;0 file hung 1 over;",
+    ),
+    (&[Grows(1), Grows(1)], "1 grew 2;"),
+    (&[Fails(1, Call::Write)], "1 disk write 1 now;"),
+    (&[FailsToSave(0, Call::Write)], "0 file write 1 now;"),
+    (
+        &[Fails(0, Call::Write), Flushes(0, 1)],
+        "0 disk write 1 over;",
+    ),
+    (
+        &[Fails(0, Call::Write), Flushes(1, 1)],
+        "0 disk write 1 now;",
+    ),
+    // A flush that began before says nothing of it.
+    (
+        &[Fails(0, Call::Write), Fails(0, Call::Write), Flushes(0, 1)],
+        "0 disk write 2 now;",
+    ),
+    (
+        &[Fails(0, Call::Write), Flushes(0, 1), Fails(0, Call::Write)],
+        "0 disk write 2 now;",
+    ),
+    (
+        &[Fails(0, Call::Flush), Flushes(0, 1), Acknowledged],
+        "0 disk flush 1 now;",
+    ),
+    // All of its blocks.
+    (&[FailsToRead(0), Reads(0, 8, 3)], "0 disk read 1 now;"),
+    (&[FailsToRead(0), Reads(0, 9, 8)], "0 disk read 1 now;"),
+    (&[FailsToRead(0), Reads(1, 8, 4)], "0 disk read 1 now;"),
+    (&[FailsToRead(0), Reads(0, 0, 12)], "0 disk read 1 over;"),
+    // All that failed meanwhile.
+    (
+        &[FailsToRead(0), FailsToReadOne(0, 40), Reads(0, 40, 1)],
+        "0 disk read 2 now;",
+    ),
+    (
+        &[FailsToRead(0), FailsToReadOne(0, 40), Reads(0, 8, 33)],
+        "0 disk read 2 over;",
+    ),
+    // However far they lie from each other, and however small the reads are.
+    (
+        &[
+            FailsToRead(0),
+            FailsToReadOne(0, 900000),
+            Reads(0, 900000, 1),
+            Reads(0, 10, 2),
+        ],
+        "0 disk read 2 now;",
+    ),
+    (
+        &[
+            FailsToRead(0),
+            FailsToReadOne(0, 900000),
+            Reads(0, 900000, 1),
+            Reads(0, 10, 2),
+            Reads(0, 8, 2),
+        ],
+        "0 disk read 2 over;",
+    ),
+    // A save that came too late was told as failed, however it ended.
+    (&[IsBack(0, Call::Flush)], "0 file write 1 now;"),
+    (&[IsBack(0, Call::Read)], ""),
+    (&[Fails(0, Call::Open), Saves(0)], "0 disk open 1 now;"),
+    (&[Fails(0, Call::Open), Opens(0)], "0 disk open 1 over;"),
+    (
+        &[
+            Fails(0, Call::Read),
+            FailsToSave(1, Call::Open),
+            Hangs(0),
+            Acknowledged,
+        ],
+        "0 disk read 1 over;0 disk hung 1 now;1 file open 1 over;",
+    ),
+];
 
 #[test]
-fn what_failed_is_over_by_what_went_well(rt: HostRuntime) -> Result<(), Fail> {
-    let rows: [(&[Step], &str); 25] = [
-        (&[], ""),
-        // Of its own unit, and no growth.
-        (&[Hangs(1)], "1 disk hung 1 now;"),
-        // A file that is back is none that hangs, and says nothing of the other.
-        (&[SaveHangs(0)], "0 file hung 1 now;"),
-        (
-            &[Hangs(0), SaveHangs(0), IsBack(0, Call::Read)],
-            "0 disk hung 1 now;0 file hung 1 over;",
-        ),
-        (&[Grows(1), Grows(1)], "1 grew 2;"),
-        (&[Fails(1, Call::Write)], "1 disk write 1 now;"),
-        (&[FailsToSave(0, Call::Write)], "0 file write 1 now;"),
-        (
-            &[Fails(0, Call::Write), Flushes(0, 1)],
-            "0 disk write 1 over;",
-        ),
-        (
-            &[Fails(0, Call::Write), Flushes(1, 1)],
-            "0 disk write 1 now;",
-        ),
-        // A flush that began before says nothing of it.
-        (
-            &[Fails(0, Call::Write), Fails(0, Call::Write), Flushes(0, 1)],
-            "0 disk write 2 now;",
-        ),
-        (
-            &[Fails(0, Call::Write), Flushes(0, 1), Fails(0, Call::Write)],
-            "0 disk write 2 now;",
-        ),
-        (
-            &[Fails(0, Call::Flush), Flushes(0, 1), Acknowledged],
-            "0 disk flush 1 now;",
-        ),
-        // All of its blocks.
-        (&[FailsToRead(0), Reads(0, 8, 3)], "0 disk read 1 now;"),
-        (&[FailsToRead(0), Reads(0, 9, 8)], "0 disk read 1 now;"),
-        (&[FailsToRead(0), Reads(1, 8, 4)], "0 disk read 1 now;"),
-        (&[FailsToRead(0), Reads(0, 0, 12)], "0 disk read 1 over;"),
-        // All that failed meanwhile.
-        (
-            &[FailsToRead(0), FailsToReadOne(0, 40), Reads(0, 40, 1)],
-            "0 disk read 2 now;",
-        ),
-        (
-            &[FailsToRead(0), FailsToReadOne(0, 40), Reads(0, 8, 33)],
-            "0 disk read 2 over;",
-        ),
-        // However far they lie from each other, and however small the reads are.
-        (
-            &[
-                FailsToRead(0),
-                FailsToReadOne(0, 900000),
-                Reads(0, 900000, 1),
-                Reads(0, 10, 2),
-            ],
-            "0 disk read 2 now;",
-        ),
-        (
-            &[
-                FailsToRead(0),
-                FailsToReadOne(0, 900000),
-                Reads(0, 900000, 1),
-                Reads(0, 10, 2),
-                Reads(0, 8, 2),
-            ],
-            "0 disk read 2 over;",
-        ),
-        // A save that came too late was told as failed, however it ended.
-        (&[IsBack(0, Call::Flush)], "0 file write 1 now;"),
-        (&[IsBack(0, Call::Read)], ""),
-        (&[Fails(0, Call::Open), Saves(0)], "0 disk open 1 now;"),
-        (&[Fails(0, Call::Open), Opens(0)], "0 disk open 1 over;"),
-        (
-            &[
-                Fails(0, Call::Read),
-                FailsToSave(1, Call::Open),
-                Hangs(0),
-                Acknowledged,
-            ],
-            "0 disk read 1 over;0 disk hung 1 now;1 file open 1 over;",
-        ),
-    ];
-    for (steps, wanted) in &rows {
-        let told = seen_behind(&rt, rt.alloc(), steps)?;
-        must(&rt, told.as_str() == *wanted, wanted, &told);
+fn what_failed_is_over_by_what_went_well(rt: HostRuntime) {
+    let alloc = rt.alloc();
+    for (steps, wanted) in &HAPPENINGS {
+        let log = counting(&rt, alloc, 2);
+        for step in *steps {
+            make(&log, *step);
+        }
+        let told = text_of(&rt, alloc, &happened(&rt, alloc, &log));
+        must_read(&rt, told.as_str(), wanted);
     }
-    Ok(())
 }
 
 /// So many places are known apart at which reads failed.
@@ -257,23 +256,30 @@ fn read_apart(log: &Log, blocks: u32, step: u32) {
     }
 }
 
-// How many reads of a unit failed, and how many of them are not over.
-fn reads_of<R: Wait>(rt: &R, alloc: Global, meters: &Meters) -> Result<String, Fail> {
-    let seen = meters.look(rt, alloc, Duration::ZERO)?;
+// Ends the test unless this is told: how many reads of a unit failed, and how many of them are not over.
+fn must_tell<R: Wait + Abort>(rt: &R, alloc: Global, log: &Log, wanted: &str) {
     let mut text = String::new(alloc);
-    for unit in &seen.happened.units {
+    for unit in &happened(rt, alloc, log).units {
         for failures in &unit.disk {
             let (count, lasting) = (failures.count, failures.lasting);
             if count != 0 {
-                write!(text, "{count} {lasting};")?;
+                write!(text, "{count} {lasting};").expect(rt, "memory");
             }
         }
     }
-    Ok(text)
+    must_read(rt, text.as_str(), wanted);
+}
+
+// The same behind each of these steps.
+fn must_tell_each<R: Wait + Abort>(rt: &R, alloc: Global, log: &Log, rows: &[(Step, &str)]) {
+    for (step, wanted) in rows {
+        make(log, *step);
+        must_tell(rt, alloc, log, wanted);
+    }
 }
 
 #[test]
-fn reads_that_failed_at_many_places_are_over_in_any_order(rt: HostRuntime) -> Result<(), Fail> {
+fn reads_that_failed_at_many_places_are_over_in_any_order(rt: HostRuntime) {
     // How many places, the step by which they are read, and what is told when each was read.
     let rows = [
         (40, 17, "40 0;"),
@@ -282,65 +288,49 @@ fn reads_that_failed_at_many_places_are_over_in_any_order(rt: HostRuntime) -> Re
         (70, 69, "70 70;"),
     ];
     for (blocks, step, wanted) in &rows {
-        let meters = Arc::new(rt.alloc(), Meters::new(rt.alloc(), 1)?)?;
-        let log = Log::off().counting(Arc::try_clone(&meters)?);
+        let log = counting(&rt, rt.alloc(), 1);
         fail_apart(&log, *blocks);
         read_apart(&log, *blocks, *step);
-        let told = reads_of(&rt, rt.alloc(), &meters)?;
-        must(&rt, told.as_str() == *wanted, wanted, &told);
+        must_tell(&rt, rt.alloc(), &log, wanted);
     }
-    Ok(())
 }
 
 #[test]
-fn reads_that_failed_at_too_many_places_are_over_in_order(rt: HostRuntime) -> Result<(), Fail> {
-    let meters = Arc::new(rt.alloc(), Meters::new(rt.alloc(), 1)?)?;
-    let log = Log::off().counting(Arc::try_clone(&meters)?);
+fn reads_that_failed_at_too_many_places_are_over_in_order(rt: HostRuntime) {
+    let log = counting(&rt, rt.alloc(), 1);
     fail_apart(&log, 70);
-    for (step, wanted) in &[
+    let rows = [
         (Reads(0, 0, 6650), "70 70;"),
         (Reads(0, 6650, 251), "70 0;"),
-    ] {
-        make(&log, *step);
-        let told = reads_of(&rt, rt.alloc(), &meters)?;
-        must(&rt, told.as_str() == *wanted, wanted, &told);
-    }
-    Ok(())
+    ];
+    must_tell_each(&rt, rt.alloc(), &log, &rows);
 }
 
 #[test]
-fn what_is_over_is_counted_apart(rt: HostRuntime) -> Result<(), Fail> {
-    let meters = Arc::new(rt.alloc(), Meters::new(rt.alloc(), 1)?)?;
-    let log = Log::off().counting(Arc::try_clone(&meters)?);
-    let steps = [
+fn what_is_over_is_counted_apart(rt: HostRuntime) {
+    let log = counting(&rt, rt.alloc(), 1);
+    let rows = [
         (Fails(0, Call::Write), "1 1;"),
         (Fails(0, Call::Write), "2 2;"),
         (Flushes(0, 2), "2 0;"),
         (Fails(0, Call::Write), "3 1;"),
     ];
-    for (step, wanted) in &steps {
-        make(&log, *step);
-        let told = reads_of(&rt, rt.alloc(), &meters)?;
-        must(&rt, told.as_str() == *wanted, wanted, &told);
-    }
-    Ok(())
+    must_tell_each(&rt, rt.alloc(), &log, &rows);
 }
 
 #[test]
-fn the_clock_is_looked_at_before_its_thread_runs(rt: HostRuntime) -> Result<(), Fail> {
+fn the_clock_is_looked_at_before_its_thread_runs(rt: HostRuntime) {
     // Of many, since a thread may have had its turn by chance.
     for _ in 0..50 {
-        let meters = Arc::new(rt.alloc(), Meters::new(rt.alloc(), 1)?)?;
-        let log = Log::off().counting(Arc::try_clone(&meters)?);
-        let is_started = start_ticks(&rt, &log).is_ok();
-        let now = meters.now();
-        must(&rt, is_started && now != 0, "the clock", &now);
+        let log = counting(&rt, rt.alloc(), 1);
+        start_ticks(&rt, &log).expect(&rt, "a thread");
+        let now = log.meters().expect(&rt, "a log that counts").now();
+        must(&rt, now != 0, "the clock", &now);
     }
-    Ok(())
 }
 
 // What is counted of a WRITE with FUA that ended so: good, conflicts, busy, medium errors, flushes that failed.
-fn counted(alloc: Global, ended: Ended) -> Result<String, AllocError> {
+fn counted(rt: &impl Abort, alloc: Global, ended: Ended) -> String {
     let mut counts = Counts::none();
     counts.count(&Served {
         operation: Operation::Write,
@@ -351,21 +341,22 @@ fn counted(alloc: Global, ended: Ended) -> Result<String, AllocError> {
     });
     let (good, conflicts, busy) = (counts.good, counts.conflicts, counts.busy);
     let (checks, lost) = (counts.checks[3], counts.failed_flushes);
-    format!(in alloc; "{good} {conflicts} {busy} {checks} {lost}")
+    format!(in alloc; "{good} {conflicts} {busy} {checks} {lost}").expect(rt, "memory")
 }
 
+// How a command ended, and what is counted of it.
+const COMMANDS: [(Ended, &str); 5] = [
+    (Ended::Good, "1 0 0 0 0"),
+    (Ended::Conflict, "0 1 0 0 0"),
+    (Ended::Busy, "0 0 1 0 0"),
+    (Ended::Check(3), "0 0 0 1 1"),
+    (Ended::Check(5), "0 0 0 0 0"),
+];
+
 #[test]
-fn commands_are_counted_as_they_ended(rt: HostRuntime) -> Result<(), Fail> {
-    let rows = [
-        (Ended::Good, "1 0 0 0 0"),
-        (Ended::Conflict, "0 1 0 0 0"),
-        (Ended::Busy, "0 0 1 0 0"),
-        (Ended::Check(3), "0 0 0 1 1"),
-        (Ended::Check(5), "0 0 0 0 0"),
-    ];
-    for (ended, wanted) in &rows {
-        let told = counted(rt.alloc(), *ended)?;
-        must(&rt, told.as_str() == *wanted, wanted, &told);
+fn commands_are_counted_as_they_ended(rt: HostRuntime) {
+    for (ended, wanted) in &COMMANDS {
+        let told = counted(&rt, rt.alloc(), *ended);
+        must_read(&rt, told.as_str(), wanted);
     }
-    Ok(())
 }

@@ -9,3 +9,8 @@ pub fn must<D: Debug>(rt: &impl Abort, holds: bool, place: &str, came: &D) {
         panic!(rt; "{place}: {came:?}");
     }
 }
+
+/// Ends the test unless a text is the one that is wanted.
+pub fn must_read(rt: &impl Abort, text: &str, wanted: &str) {
+    must(rt, text == wanted, wanted, &text);
+}

@@ -30,20 +30,21 @@ struct Seen {
     bell: Parker,
 }
 
-/// A page that is not there at first.
+/// A page of this name.
 #[derive(Drop)]
-struct Late<R: Files<File = File> + Drop> {
+struct LinesPage<R: Files<File = File> + Drop> {
     rt: R,
+    name: &'static str,
     seen: Arc<Seen, Global>,
 }
 
-impl<R: Files<File = File> + Drop> Page for Late<R> {
+impl<R: Files<File = File> + Drop> Page for LinesPage<R> {
     fn open(&self) -> Option<File> {
         let file = if self.seen.is_there.load(Ordering::SeqCst) {
             File::options()
                 .append(true)
                 .create(true)
-                .open(&self.rt, PATH)
+                .open(&self.rt, self.name)
                 .ok()
         } else {
             None
@@ -51,6 +52,20 @@ impl<R: Files<File = File> + Drop> Page for Late<R> {
         self.seen.count.fetch_add(1, Ordering::SeqCst);
         self.seen.bell.unpark();
         file
+    }
+}
+
+// A page of this name, which shares this with its test. What another run has left there goes.
+fn page<R: Files<File = File> + Clone + Drop + Abort>(
+    rt: &R,
+    name: &'static str,
+    seen: &Arc<Seen, Global>,
+) -> LinesPage<R> {
+    let _ = fs::remove_file(rt, name);
+    LinesPage {
+        rt: rt.clone().expect(rt, "memory"),
+        name,
+        seen: Arc::try_clone(seen).expect(rt, "memory"),
     }
 }
 
@@ -65,9 +80,9 @@ fn wait<R: Wait>(rt: &R, seen: &Seen, count: u64) {
 }
 
 // What a page and its test share at first.
-fn unseen(rt: &impl Abort, alloc: Global) -> Arc<Seen, Global> {
+fn unseen(rt: &impl Abort, alloc: Global, is_there: bool) -> Arc<Seen, Global> {
     let seen = Seen {
-        is_there: AtomicBool::new(false),
+        is_there: AtomicBool::new(is_there),
         count: AtomicU64::new(0),
         bell: Parker::new(),
     };
@@ -84,59 +99,45 @@ fn written<R: Files<File = File> + Wait + Clock + Abort>(
     log.tell(rt, &Event::Ready);
     wait(rt, seen, 2);
     seen.is_there.store(true, Ordering::SeqCst);
-    log.tell(rt, &Event::Stopping);
-    close(rt, log);
-    let file = File::open(rt, PATH).expect(rt, "lines");
-    let text = io::read_to_string(alloc, file).expect(rt, "lines");
-    fs::remove_file(rt, PATH).expect(rt, "lines");
-    text
+    text_at_its_end(rt, alloc, log, PATH)
+}
+
+// What a line tells of.
+fn event_of(line: Option<&str>) -> &str {
+    let (_moment, event) = line
+        .unwrap_or("")
+        .rsplit_once(" event=")
+        .unwrap_or(("", ""));
+    event
 }
 
 #[test]
 fn lines_that_were_lost_are_told(rt: HostRuntime) {
-    let alloc = rt.alloc();
-    let seen = unseen(&rt, alloc);
-    let page = Late {
-        rt: rt.clone().expect(&rt, "memory"),
-        seen: Arc::try_clone(&seen).expect(&rt, "memory"),
-    };
-    let log = Log::new(alloc).expect(&rt, "memory");
+    let seen = unseen(&rt, rt.alloc(), false);
+    let page = page(&rt, PATH, &seen);
+    let log = Log::new(rt.alloc()).expect(&rt, "memory");
     // What threads may do is known here alone.
-    start::<HostRuntime, Late<HostRuntime>>(&rt, alloc, &log, page).expect(&rt, "a thread");
-    let text = written(&rt, alloc, &log, &seen);
-    let mut events = text
-        .lines()
-        .map(|line| line.rsplit_once(" event=").unwrap_or(("", "")).1);
-    must(&rt, events.next() == Some("stopping"), "first", &text);
+    start::<HostRuntime, LinesPage<HostRuntime>>(&rt, rt.alloc(), &log, page).expect(
+        &rt, "a thread",
+    );
+    let text = written(&rt, rt.alloc(), &log, &seen);
+    let mut lines = text.lines();
+    must(&rt, event_of(lines.next()) == "stopping", "first", &text);
     must(
         &rt,
-        events.next() == Some("dropped lines=1"),
+        event_of(lines.next()) == "dropped lines=1",
         "second",
         &text,
     );
-    must(&rt, events.next().is_none(), "more", &text);
+    must(&rt, lines.next().is_none(), "more", &text);
 }
 
-/// A page that is there.
-#[derive(Drop)]
-struct There<R: Files<File = File> + Drop> {
-    rt: R,
-    name: &'static str,
-}
-
-impl<R: Files<File = File> + Drop> Page for There<R> {
-    fn open(&self) -> Option<File> {
-        File::options()
-            .append(true)
-            .create(true)
-            .open(&self.rt, self.name)
-            .ok()
+// Ends the test unless a text has each of these words so often.
+fn must_count(rt: &impl Abort, text: &str, rows: &[(&str, usize)]) {
+    for (words, wanted) in rows {
+        let count = text.split(*words).count().saturating_sub(1);
+        must(rt, count == *wanted, words, &count);
     }
-}
-
-// How many lines of a text end so.
-fn count_of(text: &str, end: &str) -> usize {
-    text.lines().filter(|line| line.ends_with(end)).count()
 }
 
 // How a connection comes.
@@ -156,19 +157,15 @@ fn written_of<R: Files<File = File> + Wait + Clock + Abort>(
     log: &Log,
     ends: u32,
 ) -> String {
+    let (path, who) = (path(), Initiator { name: b"", isid: 0 });
     for _ in 0..ends {
-        log.tell(rt, &Event::ConnectionEnded(path(), Why::Closed));
-        let who = Initiator { name: b"", isid: 0 };
-        log.tell(
-            rt,
-            &Event::LoginRefused(who, path(), 0x0203, Cause::Request),
-        );
+        log.tell(rt, &Event::ConnectionEnded(path, Why::Closed));
+        log.tell(rt, &Event::LoginRefused(who, path, 0x0203, Cause::Request));
         let discovery = SessionType::Discovery;
-        log.tell(rt, &Event::LoggedIn(who, path(), 1, discovery));
-        let ended = Event::SessionEnded(who, path(), 1, discovery, Why::Logout);
+        log.tell(rt, &Event::LoggedIn(who, path, 1, discovery));
+        let ended = Event::SessionEnded(who, path, 1, discovery, Why::Logout);
         log.tell(rt, &ended);
     }
-    let who = Initiator { name: b"", isid: 0 };
     for _ in 0..ends.saturating_add(100) {
         log.tell(rt, &Event::Reset(0, who, 1));
     }
@@ -211,55 +208,47 @@ fn written_of_failures<R: Files<File = File> + Wait + Clock + Abort>(
     text_at_its_end(rt, alloc, log, FAILURES)
 }
 
+// What is then written, and how often.
+const OF_STRANGERS: [(&str, usize); 9] = [
+    (" tag=1 why=connection_closed\n", 32),
+    (" event=connections_ended count=968\n", 1),
+    (" words=\"Not found\"\n", 32),
+    (" event=logins_refused count=968\n", 1),
+    (" tsih=1 type=discovery\n", 16),
+    (" type=discovery why=logout\n", 16),
+    (" event=discoveries count=1968\n", 1),
+    (" event=dropped lines=100\n", 1),
+    ("\n", 1101),
+];
+
 // What strangers do fills no disk, nor what hosts do that are in.
 #[test]
 fn what_strangers_do_takes_few_lines(rt: HostRuntime) {
-    let alloc = rt.alloc();
-    let _ = fs::remove_file(&rt, OTHER);
-    let page = There {
-        rt: rt.clone().expect(&rt, "memory"),
-        name: OTHER,
-    };
-    let log = Log::new(alloc).expect(&rt, "memory");
-    start::<HostRuntime, There<HostRuntime>>(&rt, alloc, &log, page).expect(&rt, "a thread");
-    let text = written_of(&rt, alloc, &log, 1000);
-    let alone = count_of(&text, " tag=1 why=connection_closed");
-    let together = count_of(&text, " event=connections_ended count=968");
-    let refused = count_of(&text, " words=\"Not found\"");
-    let summed = count_of(&text, " event=logins_refused count=968");
-    let seen = (alone, together, refused, summed);
-    must(&rt, seen == (32, 1, 32, 1), "lines", &seen);
-    let begun = count_of(&text, " tsih=1 type=discovery");
-    let ended = count_of(&text, " type=discovery why=logout");
-    let others = count_of(&text, " event=discoveries count=1968");
-    let seen = (begun, ended, others);
-    must(&rt, seen == (16, 16, 1), "lines", &seen);
-    let dropped = count_of(&text, " event=dropped lines=100");
-    let seen = (dropped, text.lines().count());
-    must(&rt, seen == (1, 1101), "lines", &seen);
+    let page = page(&rt, OTHER, &unseen(&rt, rt.alloc(), true));
+    let log = Log::new(rt.alloc()).expect(&rt, "memory");
+    start::<HostRuntime, LinesPage<HostRuntime>>(&rt, rt.alloc(), &log, page).expect(
+        &rt, "a thread",
+    );
+    let text = written_of(&rt, rt.alloc(), &log, 1000);
+    must_count(&rt, text.as_str(), &OF_STRANGERS);
 }
 
-// How many lines of a text tell of such an event.
-fn told_of(text: &str, event: &str) -> usize {
-    text.lines().filter(|line| line.contains(event)).count()
-}
+// What is then written, and how often.
+const OF_FAILURES: [(&str, usize); 4] = [
+    (" event=busy ", 1000),
+    (" event=device_failed ", 1000),
+    (" event=unit_reset ", 5),
+    (" event=dropped lines=200\n", 1),
+];
 
 // What fails, or is refused, takes a thousand lines a minute, and keeps no reset or reservation from being told.
 #[test]
 fn what_fails_takes_few_lines_and_hides_no_fence(rt: HostRuntime) {
-    let alloc = rt.alloc();
-    let _ = fs::remove_file(&rt, FAILURES);
-    let page = There {
-        rt: rt.clone().expect(&rt, "memory"),
-        name: FAILURES,
-    };
-    let log = Log::new(alloc).expect(&rt, "memory");
-    start::<HostRuntime, There<HostRuntime>>(&rt, alloc, &log, page).expect(&rt, "a thread");
-    let text = written_of_failures(&rt, alloc, &log, 1100);
-    let busy = told_of(&text, " event=busy ");
-    let failed = told_of(&text, " event=device_failed ");
-    let resets = told_of(&text, " event=unit_reset ");
-    let dropped = count_of(&text, " event=dropped lines=200");
-    let seen = (busy, failed, resets, dropped);
-    must(&rt, seen == (1000, 1000, 5, 1), "lines", &seen);
+    let page = page(&rt, FAILURES, &unseen(&rt, rt.alloc(), true));
+    let log = Log::new(rt.alloc()).expect(&rt, "memory");
+    start::<HostRuntime, LinesPage<HostRuntime>>(&rt, rt.alloc(), &log, page).expect(
+        &rt, "a thread",
+    );
+    let text = written_of_failures(&rt, rt.alloc(), &log, 1100);
+    must_count(&rt, text.as_str(), &OF_FAILURES);
 }

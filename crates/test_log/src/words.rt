@@ -1,33 +1,34 @@
 //! The words of the command line, and the texts of the faults.
-use crate::ends::must;
+use crate::ends::{must, must_read};
 use command_line::{Fault, Options, WordsFault, read};
 use std::alloc::Global;
 use std::net::{Ipv4Addr, SocketAddrV4};
+use std::process::Abort;
 use std::test::*;
 
 // The words of a line, each as a string of its own: they stand between bars. A line of nothing has none.
-fn words_of(alloc: Global, line: &str) -> Result<Vec<String>, Fail> {
+fn words_of(rt: &impl Abort, alloc: Global, line: &str) -> Vec<String> {
     let mut words = Vec::new(alloc);
-    if line.is_empty() {
-        return Ok(words);
+    if !line.is_empty() {
+        for word in line.split('|') {
+            let word = word.to_string(alloc).expect(rt, "memory");
+            words.push(word).expect(rt, "memory");
+        }
     }
-    for word in line.split('|') {
-        words.push(word.to_string(alloc)?)?;
-    }
-    Ok(words)
+    words
 }
 
 // What options ask for, as a line.
-fn told(alloc: Global, options: &Options<'_>) -> Result<String, Fail> {
+fn told(rt: &impl Abort, alloc: Global, options: &Options<'_>) -> String {
     let mut line = format!(in alloc;
         "{} {} {} {} {} {}",
         options.is_once, options.target, options.array, options.host, options.port, options.portals
-    )?;
+    )
+    .expect(rt, "memory");
     for path in &options.paths {
-        line.push(' ')?;
-        line.push_str(*path)?;
+        write!(line, " {path}").expect(rt, "memory");
     }
-    Ok(line)
+    line
 }
 
 // Words that are obeyed, behind the program's name, and what they ask for: whether one session is served, the target, the number
@@ -52,23 +53,21 @@ arrayd|1|2|3|4|5|6|7|8 = false iqn.2000-01.test:array 1 127.0.0.1 3260 1 1 2 3 4
 }
 
 #[test]
-fn words_that_are_obeyed(rt: HostRuntime) -> Result<(), Fail> {
+fn words_that_are_obeyed(rt: HostRuntime) {
     let alloc = rt.alloc();
     must(&rt, !obeyed().is_empty(), "words", &"a table has rows");
     for line in obeyed().lines() {
-        let (words, wanted) = line.split_once(" = ").ok_or("a row")?;
-        let words = words_of(alloc, words)?;
+        let (words, wanted) = line.split_once(" = ").expect(&rt, line);
+        let words = words_of(&rt, alloc, words);
         let options = read(alloc, words.as_slice()).expect(&rt, line);
-        let told = told(alloc, &options)?;
+        let told = told(&rt, alloc, &options);
         must(&rt, told.as_str() == wanted, line, &told);
     }
-    Ok(())
 }
 
 // Whether these words are refused as wrong ones.
-fn are_wrong(alloc: Global, line: &str) -> Result<bool, Fail> {
-    let words = words_of(alloc, line)?;
-    Ok(matches!(read(alloc, words.as_slice()), Err(WordsFault::Wrong)))
+fn are_wrong(alloc: Global, words: &[String]) -> bool {
+    matches!(read(alloc, words), Err(WordsFault::Wrong))
 }
 
 // Words that are wrong. The first line has none.
@@ -123,28 +122,28 @@ arrayd|--portals|two|a"
 }
 
 #[test]
-fn wrong_words(rt: HostRuntime) -> Result<(), Fail> {
+fn wrong_words(rt: HostRuntime) {
     must(&rt, !wrong().is_empty(), "words", &"a table has rows");
     for line in wrong().lines() {
-        must(&rt, are_wrong(rt.alloc(), line)?, line, &"obeyed");
+        let words = words_of(&rt, rt.alloc(), line);
+        must(&rt, are_wrong(rt.alloc(), &words), line, &"obeyed");
     }
-    Ok(())
 }
 
 // Words with a target's name of so many bytes.
-fn named(alloc: Global, len: usize) -> Result<Vec<String>, Fail> {
+fn named(rt: &impl Abort, alloc: Global, len: usize) -> Vec<String> {
     let mut line = String::new(alloc);
-    line.push_str("arrayd|a|--target=")?;
+    line.push_str("arrayd|a|--target=").expect(rt, "memory");
     for _ in 0..len {
-        line.push('n')?;
+        line.push('n').expect(rt, "memory");
     }
-    words_of(alloc, line.as_str())
+    words_of(rt, alloc, line.as_str())
 }
 
 #[test]
-fn length_of_a_name(rt: HostRuntime) -> Result<(), Fail> {
+fn length_of_a_name(rt: HostRuntime) {
     let alloc = rt.alloc();
-    let longest = named(alloc, 196)?;
+    let longest = named(&rt, alloc, 196);
     let options = read(alloc, longest.as_slice()).expect(&rt, "options");
     must(
         &rt,
@@ -152,14 +151,13 @@ fn length_of_a_name(rt: HostRuntime) -> Result<(), Fail> {
         "the longest",
         &options.target,
     );
-    let longer = named(alloc, 197)?;
-    let is_refused = matches!(read(alloc, longer.as_slice()), Err(WordsFault::Wrong));
+    let longer = named(&rt, alloc, 197);
+    let is_refused = are_wrong(alloc, &longer);
     must(&rt, is_refused, "one that is longer", &longer);
-    Ok(())
 }
 
 #[test]
-fn texts_of_the_faults(rt: HostRuntime) -> Result<(), Fail> {
+fn texts_of_the_faults(rt: HostRuntime) {
     let at = SocketAddrV4::new(Ipv4Addr::new(10, 0, 5, 1), 3260);
     let rows = [
         (Fault::WrongWords, "wrong words"),
@@ -195,8 +193,7 @@ fn texts_of_the_faults(rt: HostRuntime) -> Result<(), Fail> {
         (Fault::NotFlushed(7), "unit 7 was not flushed"),
     ];
     for (fault, text) in &rows {
-        let said = fault.to_string(rt.alloc())?;
-        must(&rt, said.as_str() == *text, text, &said);
+        let said = fault.to_string(rt.alloc()).expect(&rt, "memory");
+        must_read(&rt, said.as_str(), text);
     }
-    Ok(())
 }
