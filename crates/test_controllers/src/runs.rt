@@ -22,20 +22,21 @@ type New = NewUnit<MemBlocks, MemBlocks, Opens>;
 const BLOCKS: u32 = 64;
 
 // The unit at a place of so many, which is opened so often before an open fails.
-fn unit(alloc: Global, place: u8, opens: u64, units: u8) -> Result<New, Fail> {
-    let memory = MemBlocks::new(alloc, BLOCKS)?;
+fn unit(rt: &impl Abort, alloc: Global, place: u8, opens: u64, units: u8) -> Result<New, Fail> {
+    let memory = MemBlocks::new(alloc, BLOCKS).expect(rt, "memory");
     let opener = FusedOpener::new(KeepOpener, opens);
     new_unit(alloc, memory, opener, place, units)
 }
 
-fn units_of(alloc: Global, opens: &[u64]) -> Result<Vec<New>, Fail>
+fn units_of(rt: &impl Abort, alloc: Global, opens: &[u64]) -> Result<Vec<New>, Fail>
     ensures { IfOk result (λ v. length v.items ≤ 8) }
 {
     let count = u8::try_from(opens.len()).unwrap_or(u8::MAX);
     let mut new = Vec::new(alloc);
     let mut place = 0u8;
     for opens in opens {
-        new.push(unit(alloc, place, *opens, count)?)?;
+        let unit = unit(rt, alloc, place, *opens, count)?;
+        new.push(unit).expect(rt, "memory");
         place = place.saturating_add(1);
     }
     if new.len() > 8 {
@@ -45,13 +46,13 @@ fn units_of(alloc: Global, opens: &[u64]) -> Result<Vec<New>, Fail>
 }
 
 /// Tells a tale of units that are opened so often before an open fails, and of a desk of the first controller.
-pub fn run<W: Threads + Wait + Clone + Send + Sync + Drop>(
+pub fn run<W: Threads + Wait + Abort + Clone + Send + Sync + Drop>(
     rt: &W,
     alloc: Global,
     opens: &[u64],
     tale: Tale<'_>,
 ) -> Result<(), Fail> {
-    let new = units_of(alloc, opens)?;
+    let new = units_of(rt, alloc, opens)?;
     tell::<Brand, _, _, W>(rt, alloc, new, tale)
 }
 

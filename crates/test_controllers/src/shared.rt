@@ -13,6 +13,7 @@ use forwarding::{Desk, DeskFault, Ticket};
 use scsi_types::{Command, Group, PortName, Reply, Status};
 use status::Row;
 use std::alloc::Global;
+use std::process::Abort;
 use std::sync::Wait;
 use std::test::Fail;
 use std::thread::Threads;
@@ -289,16 +290,16 @@ pub fn tell<
     N: ArrayNaming<Opened> + Send + Sync,
     B: Blocks + Send + Sync,
     O: Opener<B> + Send + Sync,
-    W: Threads + Wait + Clone + Send + Sync + Drop,
+    W: Threads + Wait + Abort + Clone + Send + Sync + Drop,
 >(rt: &W, alloc: Global, new: Vec<NewUnit<B, MemBlocks, O>>, tale: Tale<'_>) -> Result<(), Fail>
     requires named { IsNamed N.book N.table N.opening B.contents new.items }
     requires count { length new.items ≤ 8 }
 {
     let shared: Shared<W, B, O, N> = Shared {
-        rt: rt.clone()?,
+        rt: rt.clone().expect(rt, "memory"),
         alloc,
-        units: Units::new(rt, alloc, new)?,
-        desk: Desk::new(alloc, Group::One)?,
+        units: Units::new(rt, alloc, new).expect(rt, "memory"),
+        desk: Desk::new(alloc, Group::One).expect(rt, "memory"),
     };
     happens::<W, Host<B, O, N>, Shared<W, B, O, N>>(rt, alloc, &shared, tale)
 }

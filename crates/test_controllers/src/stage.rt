@@ -43,11 +43,16 @@ fn done(is_done: bool) -> End {
 }
 
 // The number behind a word, in hexadecimal, or 0.
-fn number(digits: &str) -> Option<u64> {
+fn number(digits: &str) -> u64 {
     if digits.is_empty() {
-        return Some(0);
+        return 0;
     }
-    u64::from_str_radix(digits, 16).ok()
+    u64::from_str_radix(digits, 16).unwrap_or(u64::MAX)
+}
+
+// A word, and what stands behind it.
+fn words_of(text: &str) -> (&str, &str) {
+    text.split_once(' ').unwrap_or((text, ""))
 }
 
 impl<S: Drop, A: Array<S>> Stage<'_, S, A> {
@@ -57,7 +62,7 @@ impl<S: Drop, A: Array<S>> Stage<'_, S, A> {
         let times: u32 = times.parse().unwrap_or(0);
         for _ in 0..times {
             for line in lines.split("; ") {
-                if self.comes_to(line) != Some(true) {
+                if !self.comes_to(line) {
                     return false;
                 }
             }
@@ -65,98 +70,117 @@ impl<S: Drop, A: Array<S>> Stage<'_, S, A> {
         times > 0
     }
 
-    // None: it cannot be done.
-    fn comes_to(&mut self, line: &str) -> Option<bool> {
-        let (deed, told) = line.split_once(" = ")?;
-        let (verb, rest) = deed.split_once(' ').unwrap_or((deed, ""));
-        let (place, rest) = rest.split_once(' ').unwrap_or((rest, ""));
-        let place = self.place(place)?;
+    // What cannot be done comes to nothing.
+    fn comes_to(&mut self, line: &str) -> bool {
+        let (deed, told) = line.split_once(" = ").unwrap_or((line, ""));
+        let (verb, rest) = words_of(deed);
+        let (place, rest) = words_of(rest);
+        let place = self.place(place);
         if verb == "board" {
             return self.shows(place, told);
         }
-        let end = self.end(verb, place, rest)?;
-        let (word, rest) = told.split_once(' ').unwrap_or((told, ""));
+        let end = self.end(verb, place, rest);
+        let (word, rest) = words_of(told);
         if end.word == "good" && word == "good" {
             return self.answers(place, rest);
         }
-        Some(end.word == word && end.number == number(rest)?)
+        end.word == word && end.number == number(rest)
     }
 
     // The place that a word says: a host, a unit, or 0.
-    fn place(&mut self, word: &str) -> Option<usize> {
+    fn place(&mut self, word: &str) -> usize {
         match word {
-            "" => Some(0),
-            "last" => self.hosts.len().checked_sub(1),
+            "" => 0,
+            "last" => self.hosts.len().saturating_sub(1),
             "next" => {
-                self.next = self.next.wrapping_add(1);
-                self.next.checked_sub(1)
+                let next = self.next;
+                self.next = next.wrapping_add(1);
+                next
             }
-            _ => word.parse().ok(),
+            _ => word.parse().unwrap_or(usize::MAX),
         }
     }
 
     // Whether the board of a unit shows this.
-    fn shows(&self, unit: usize, told: &str) -> Option<bool> {
-        let row = self.array.row(unit)?;
+    fn shows(&self, unit: usize, told: &str) -> bool {
+        let Some(row) = self.array.row(unit) else {
+            return false;
+        };
         let (one, two) = row.states;
-        let shown = format!(in self.alloc; "{} {one} {two} {}", row.owner, row.entries).ok()?;
-        Some(shown.as_str() == told)
+        match format!(in self.alloc; "{} {one} {two} {}", row.owner, row.entries) {
+            Ok(shown) => shown.as_str() == told,
+            Err(_) => false,
+        }
     }
 
     // Whether a host has these data.
-    fn answers(&self, host: usize, data: &str) -> Option<bool> {
-        let wanted = bytes_of(self.alloc, &[], data).ok()?;
-        Some(self.array.data(self.hosts.get(host)?) == wanted.as_slice())
+    fn answers(&self, host: usize, data: &str) -> bool {
+        let Some(host) = self.hosts.get(host) else {
+            return false;
+        };
+        match bytes_of(self.alloc, &[], data) {
+            Ok(wanted) => self.array.data(host) == wanted.as_slice(),
+            Err(_) => false,
+        }
     }
 
     // What becomes of what is done at a place.
-    fn end(&mut self, verb: &str, place: usize, rest: &str) -> Option<End> {
+    fn end(&mut self, verb: &str, place: usize, rest: &str) -> End {
         let next = self.hosts.len();
         match verb {
-            "attach" => self.attach(place, next, group_of(rest)?),
-            "again" => self.attach(0, place, group_of(rest)?),
-            "first" => Some(self.array.serve_first()),
+            "attach" => self.attach(place, next, rest),
+            "again" => self.attach(0, place, rest),
+            "first" => self.array.serve_first(),
             "close" => {
                 self.array.close();
-                Some(ended("done"))
+                ended("done")
             }
-            "move" => Some(self.array.move_by(place, list_of(rest))),
-            "down" if place == 1 => Some(self.array.take_down(Group::One)),
-            "down" => Some(self.array.take_down(Group::Two)),
+            "move" => self.array.move_by(place, list_of(rest)),
+            "down" if place == 1 => self.array.take_down(Group::One),
+            "down" => self.array.take_down(Group::Two),
             _ => self.end_of_host(verb, place, rest),
         }
     }
 
-    // The next host attaches, with this ISID.
-    fn attach(&mut self, unit: usize, isid: usize, group: Group) -> Option<End> {
-        let host = self.array.attach(unit, u32::try_from(isid).ok()?, group)?;
-        self.hosts.push(host).ok()?;
-        Some(ended("done"))
+    // The next host attaches, with this ISID, by the group of this number.
+    fn attach(&mut self, unit: usize, isid: usize, number: &str) -> End {
+        let Some(group) = group_of(number) else {
+            return ended("nothing");
+        };
+        let isid = u32::try_from(isid).unwrap_or(u32::MAX);
+        match self.array.attach(unit, isid, group) {
+            Some(host) => done(self.hosts.push(host).is_ok()),
+            None => ended("nothing"),
+        }
     }
 
     // What becomes of what a host does.
-    fn end_of_host(&mut self, verb: &str, host: usize, asks: &str) -> Option<End> {
+    fn end_of_host(&mut self, verb: &str, host: usize, asks: &str) -> End {
         let array = self.array;
-        let host = self.hosts.get_mut(host)?;
+        let Some(host) = self.hosts.get_mut(host) else {
+            return ended("nothing");
+        };
         match verb {
-            "collect" => Some(array.collect(host)),
-            "own" => Some(array.serve_own(host)),
-            "kept" => Some(done(array.is_kept(host))),
-            "reset" => Some(done(array.reset(host))),
-            "retire" => Some(done(array.retire(host))),
+            "collect" => array.collect(host),
+            "own" => array.serve_own(host),
+            "kept" => done(array.is_kept(host)),
+            "reset" => done(array.reset(host)),
+            "retire" => done(array.retire(host)),
             _ => end_of_command(array, verb, host, asks),
         }
     }
 }
 
 // What becomes of a host's command.
-fn end_of_command<S, A: Array<S>>(array: &A, verb: &str, host: &mut S, asks: &str) -> Option<End> {
-    let (command, bytes) = command_of(asks)?;
+fn end_of_command<S, A: Array<S>>(array: &A, verb: &str, host: &mut S, asks: &str) -> End {
+    let Some((command, bytes)) = command_of(asks) else {
+        return ended("nothing");
+    };
     match verb {
-        "send-1" => Some(array.ask(host, Group::One, command, bytes)),
-        "send-2" => Some(array.ask(host, Group::Two, command, bytes)),
-        "desk" => Some(array.ask_at_desk(host, command, bytes)),
-        "hand" => Some(array.hand_in(host, command, bytes)),
-        _ => None,
+        "send-1" => array.ask(host, Group::One, command, bytes),
+        "send-2" => array.ask(host, Group::Two, command, bytes),
+        "desk" => array.ask_at_desk(host, command, bytes),
+        "hand" => array.hand_in(host, command, bytes),
+        _ => ended("nothing"),
     }
 }
