@@ -10,47 +10,45 @@ use std::test::*;
 const JOBS: usize = 64;
 
 // An event happens: what is noted of it.
-fn noted(alloc: Global, world: &mut MemWorld, act: &str) -> Result<String, Fail> {
+fn noted(rt: &impl Abort, alloc: Global, world: &mut MemWorld, act: &str) -> String {
     let before = world.notes().len();
-    world.run(&events_of(alloc, act)?)?;
-    Ok(notes_behind(alloc, world.notes(), before)?)
+    let events = events_of(rt, alloc, act);
+    world.run(&events).expect(rt, "memory");
+    notes_behind(rt, alloc, world.notes(), before)
 }
 
 // A session of this number attaches. The units have them in turn.
-fn attach(alloc: Global, world: &mut MemWorld, number: usize) -> Result<(), Fail> {
-    let act = format!(in alloc; "attach {} {number} 1", number % 2)?;
-    let _ = noted(alloc, world, act.as_str())?;
-    Ok(())
+fn attach(rt: &impl Abort, alloc: Global, world: &mut MemWorld, number: usize) {
+    let act = format!(in alloc; "attach {} {number} 1", number % 2).expect(rt, "memory");
+    let _ = noted(rt, alloc, world, act.as_str());
 }
 
 // It hands in a job, of which one thing is noted.
-fn submit(
-    rt: &impl Abort,
-    alloc: Global,
-    world: &mut MemWorld,
-    number: usize,
-    said: &str,
-) -> Result<(), Fail> {
-    let act = format!(in alloc; "submit {number} 1 test")?;
-    let note = noted(alloc, world, act.as_str())?;
+fn submit(rt: &impl Abort, alloc: Global, world: &mut MemWorld, number: usize, said: &str) {
+    let act = format!(in alloc; "submit {number} 1 test").expect(rt, "memory");
+    let note = noted(rt, alloc, world, act.as_str());
     let mut words = note.as_str().split_ascii_whitespace();
     let is_right = words.nth(4) == Some(said) && words.next().is_none();
     must(rt, is_right, act.as_str(), &note);
-    Ok(())
+}
+
+// A desk has as many jobs as it has room for, and one is taken from it.
+fn fill(rt: &impl Abort, alloc: Global, world: &mut MemWorld) {
+    for number in 0..=JOBS {
+        attach(rt, alloc, world, number);
+    }
+    must(rt, world.sessions().len() == JOBS + 1, "sessions", &JOBS);
+    for number in 0..JOBS {
+        submit(rt, alloc, world, number, "submitted");
+    }
+    submit(rt, alloc, world, JOBS, "busy");
+    let _ = noted(rt, alloc, world, "take 1");
+    submit(rt, alloc, world, JOBS, "submitted");
 }
 
 #[test]
 fn a_desk_with_as_many_jobs_as_it_has_room_for(rt: HostRuntime) -> Result<(), Fail> {
-    let alloc = rt.alloc();
-    let mut world = two_units(alloc, [9, 9])?;
-    for number in 0..=JOBS {
-        attach(alloc, &mut world, number)?;
-    }
-    must(&rt, world.sessions().len() == JOBS + 1, "sessions", &JOBS);
-    for number in 0..JOBS {
-        submit(&rt, alloc, &mut world, number, "submitted")?;
-    }
-    submit(&rt, alloc, &mut world, JOBS, "busy")?;
-    let _ = noted(alloc, &mut world, "take 1")?;
-    submit(&rt, alloc, &mut world, JOBS, "submitted")
+    let mut world = two_units(rt.alloc(), [9, 9])?;
+    fill(&rt, rt.alloc(), &mut world);
+    Ok(())
 }

@@ -1,16 +1,18 @@
 //! One unit whose board has as many readers as it has seats for: two sessions write in two threads while two others read by all
 //! seats, and the sessions merge what they have seen when all threads have ended.
+ghost use Rattle.std.specs.Prelude.{◌≡◌, IfSome};
 ghost use Rattle.unit_history.specs.Naming.{IsNamedAt};
 
+use crate::ends::must;
 use block_file::{Blocks, FusedOpener, KeepOpener, MemBlocks, Opener, ReplyMemory};
 use scsi_types::{Command, Group, PortName};
 use status::MOST_SEATS;
 use std::alloc::Global;
 use std::marker::Brand;
+use std::process::Abort;
 use std::sync::Wait;
 use std::test::*;
 use std::thread::{Threads, join};
-use test_connections::want;
 use test_memory::{Opens, new_unit};
 use unit_history::{NewUnit, Opened, Pass, Seat, SharedUnit};
 use unit_sequence::ArrayNaming;
@@ -49,7 +51,9 @@ struct Session<B: Blocks, F: Blocks, O: Opener<B>, N: ArrayNaming<Opened>> {
 
 impl<B: Blocks, F: Blocks, O: Opener<B>, N: ArrayNaming<Opened>> Session<B, F, O, N> {
     // Takes the pass out, which is one of unit 0.
-    fn take(&mut self) -> Option<Pass<B, F, O, N>> {
+    fn take(&mut self) -> Option<Pass<B, F, O, N>>
+        ensures { IfSome result (λ pass. pass.place ≡ 0) }
+    {
         let pass = self.pass.take()?;
         if pass.place() == 0 { Some(pass) } else { None }
     }
@@ -70,9 +74,6 @@ impl<W: Wait + Drop, B: Blocks, F: Blocks, O: Opener<B>, N: ArrayNaming<Opened>>
         let Some(pass) = session.take() else {
             return false;
         };
-        if pass.place() != 0 {
-            return false;
-        }
         let asked = Ok(Command::TestUnitReady);
         let (pass, end) = self.unit.serve(
             &self.rt,
@@ -101,9 +102,6 @@ impl<W: Wait + Drop, B: Blocks, F: Blocks, O: Opener<B>, N: ArrayNaming<Opened>>
         let (Some(first), Some(second)) = (one.take(), two.take()) else {
             return false;
         };
-        if first.place() != 0 || second.place() != 0 {
-            return false;
-        }
         let (first, second) = self.unit.merge_seen(first, second);
         one.pass = Some(first);
         two.pass = Some(second);
@@ -193,24 +191,27 @@ fn have_merged<S, T, A: Shared<S, T>>(unit: &A, one: &mut S, two: &mut S, entrie
 }
 
 /// Two attach, and all of it happens. Their attaches are two entries.
-fn happens<W: Threads + Sync, S: Send + Drop, T: Send, A: Shared<S, T> + Sync>(
+fn happens<W: Threads + Abort + Sync, S: Send + Drop, T: Send, A: Shared<S, T> + Sync>(
     rt: &W,
     unit: &A,
     seats: &mut [T],
-) -> Result<(), Fail> {
+) {
     let entries = 2 + 2 * TIMES;
-    let mut one = unit.attach(1).ok_or("a session")?;
-    let mut two = unit.attach(2).ok_or("a session")?;
-    want(seats.len() == MOST_SEATS, "as many seats as there may be")?;
-    want(
-        are_right(rt, unit, (&mut one, &mut two), seats),
-        "rows that are never older",
-    )?;
-    want(all_read(unit, seats, entries), "the last row at each seat")?;
-    want(
-        have_merged(unit, &mut one, &mut two, entries),
-        "all entries are seen by both",
-    )
+    let mut one = unit.attach(1).expect(rt, "a session");
+    let mut two = unit.attach(2).expect(rt, "a session");
+    let count = seats.len();
+    must(
+        rt,
+        count == MOST_SEATS,
+        "as many seats as there may be",
+        &count,
+    );
+    let is_right = are_right(rt, unit, (&mut one, &mut two), seats);
+    must(rt, is_right, "rows that are never older", &TIMES);
+    let is_last = all_read(unit, seats, entries);
+    must(rt, is_last, "the last row at each seat", &entries);
+    let is_seen = have_merged(unit, &mut one, &mut two, entries);
+    must(rt, is_seen, "all entries are seen by both", &entries);
 }
 
 // Shares a unit.
@@ -219,19 +220,20 @@ fn share<
     B: Blocks + Send + Sync,
     F: Blocks + Send + Sync,
     O: Opener<B> + Send + Sync,
-    W: Threads + Wait + Clone + Send + Sync + Drop,
->(rt: &W, alloc: Global, new: NewUnit<B, F, O>) -> Result<(), Fail>
+    W: Threads + Wait + Abort + Clone + Send + Sync + Drop,
+>(rt: &W, alloc: Global, new: NewUnit<B, F, O>)
     requires { IsNamedAt N.book N.table N.opening B.contents 0 new }
 {
-    let (unit, mut seats) = SharedUnit::<B, F, O, N, 0>::new(rt, alloc, new, MOST_SEATS)?;
+    let shared = SharedUnit::<B, F, O, N, 0>::new(rt, alloc, new, MOST_SEATS);
+    let (unit, mut seats) = shared.expect(rt, "memory");
     let unit = Unit {
-        rt: rt.clone()?,
+        rt: rt.clone().expect(rt, "memory"),
         alloc,
         unit,
     };
     happens::<W, Session<B, F, O, N>, Seat<B, F, O, N, 0>, Unit<W, B, F, O, N>>(
         rt, &unit, &mut seats,
-    )
+    );
 }
 
 #[test]
@@ -239,5 +241,6 @@ fn two_sessions_merge_beside_as_many_readers_as_there_may_be(rt: HostRuntime) ->
     let alloc = rt.alloc();
     let opener: Opens = FusedOpener::new(KeepOpener, u64::MAX);
     let new = new_unit(alloc, MemBlocks::new(alloc, 16)?, opener, 0, 1)?;
-    share::<Brand, _, _, _, _>(&rt, alloc, new)
+    share::<Brand, _, _, _, _>(&rt, alloc, new);
+    Ok(())
 }

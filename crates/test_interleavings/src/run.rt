@@ -89,7 +89,7 @@ fn at(stage: &Stage) -> &'static str {
 }
 
 /// The notes behind so many, as a row tells of them, without commas.
-pub fn notes_behind(alloc: Global, notes: &[Note], before: usize) -> Result<String, AllocError> {
+pub fn notes_behind(rt: &impl Abort, alloc: Global, notes: &[Note], before: usize) -> String {
     let mut text = String::new(alloc);
     for note in notes.get(before..).unwrap_or(&[]) {
         let Note {
@@ -99,23 +99,23 @@ pub fn notes_behind(alloc: Global, notes: &[Note], before: usize) -> Result<Stri
             count,
             what,
         } = note;
-        write!(text, "{place} {session} {serial} {count} ")?;
-        put_said(&mut text, what)?;
-        text.push(' ')?;
+        write!(text, "{place} {session} {serial} {count} ").expect(rt, "memory");
+        put_said(&mut text, what).expect(rt, "memory");
+        text.push(' ').expect(rt, "memory");
     }
-    Ok(text)
+    text
 }
 
-fn put_sessions(text: &mut String, world: &MemWorld) -> Result<(), AllocError> {
+fn put_sessions(rt: &impl Abort, text: &mut String, world: &MemWorld) {
     for session in world.sessions() {
         let stands = at(&session.stage);
         write!(
             text,
             " {} {} {} {stands}",
             session.place, session.id, session.next
-        )?;
+        )
+        .expect(rt, "memory");
     }
-    Ok(())
 }
 
 fn board(world: &MemWorld, place: usize) -> Option<UnitRow> {
@@ -133,17 +133,18 @@ fn entries(board: &Option<UnitRow>) -> u64 {
     }
 }
 
-fn look(alloc: Global, world: &MemWorld, before: usize) -> Result<Seen, AllocError> {
+fn look(rt: &impl Abort, alloc: Global, world: &MemWorld, before: usize) -> Seen {
     let boards = [board(world, 0), board(world, 1)];
-    let mut text = notes_behind(alloc, world.notes(), before)?;
+    let mut text = notes_behind(rt, alloc, world.notes(), before);
     write!(
         text,
         "=> {} {} =>",
         entries(&boards[0]),
         entries(&boards[1])
-    )?;
-    put_sessions(&mut text, world)?;
-    Ok(Seen { boards, text })
+    )
+    .expect(rt, "memory");
+    put_sessions(rt, &mut text, world);
+    Seen { boards, text }
 }
 
 // Where a unit has as many entries as before, it shows what it showed.
@@ -169,34 +170,45 @@ fn is_met(before: &Seen, after: &Seen, wanted: &str) -> bool {
 }
 
 // Runs the events of a row, behind which so much was seen: what is seen then.
-fn run_row(
-    rt: &impl Abort,
-    alloc: Global,
-    world: &mut MemWorld,
-    before: &Seen,
-    row: &str,
-) -> Result<Seen, Fail> {
+fn run_row(rt: &impl Abort, alloc: Global, world: &mut MemWorld, before: &Seen, row: &str) -> Seen {
     let (happens, wanted) = row.split_once("=>").expect(rt, row);
     let (_name, acts) = happens.split_once(':').expect(rt, row);
     let noted = world.notes().len();
-    world.run(&events_of(alloc, acts)?)?;
-    let after = look(alloc, world, noted)?;
+    let events = events_of(rt, alloc, acts);
+    world.run(&events).expect(rt, "memory");
+    let after = look(rt, alloc, world, noted);
     must(rt, is_met(before, &after, wanted), row, &after.text);
-    Ok(after)
+    after
 }
 
-// Runs the events of each row of a table in turn, over units whose openers pass so many opens each.
-fn run(rt: &impl Abort, alloc: Global, table: &str) -> Result<(), Fail> {
-    let rows = lines_of(alloc, table)?;
-    let (head, rows) = rows.as_slice().split_first().expect(rt, "a table has rows");
-    must(rt, !rows.is_empty(), head, &"a table has rows");
+// How many opens the opener of each unit passes, as the first line of a table says.
+fn opens_of(rt: &impl Abort, head: &str) -> [u64; 2] {
     let (_word, opens) = head.split_once(' ').expect(rt, head);
     let (first, second) = opens.split_once(' ').expect(rt, head);
-    let mut world = two_units(alloc, [first.parse()?, second.parse()?])?;
-    let mut seen = look(alloc, &world, 0)?;
+    [
+        first.parse().expect(rt, head),
+        second.parse().expect(rt, head),
+    ]
+}
+
+// Runs the events of each row in turn.
+fn run_rows(rt: &impl Abort, alloc: Global, world: &mut MemWorld, rows: &[&str]) {
+    let mut seen = look(rt, alloc, world, 0);
     for row in rows {
-        seen = run_row(rt, alloc, &mut world, &seen, row)?;
+        seen = run_row(rt, alloc, world, &seen, row);
     }
+}
+
+// Runs the rows of a table over units whose openers pass so many opens each.
+fn run(rt: &impl Abort, alloc: Global, table: &str) -> Result<(), Fail> {
+    let lines = lines_of(alloc, table).expect(rt, "memory");
+    let (head, rows) = lines
+        .as_slice()
+        .split_first()
+        .expect(rt, "a table has rows");
+    must(rt, !rows.is_empty(), head, &"a table has rows");
+    let mut world = two_units(alloc, opens_of(rt, head))?;
+    run_rows(rt, alloc, &mut world, rows);
     Ok(())
 }
 

@@ -5,6 +5,7 @@ ghost use Rattle.unit_state.specs.Serials.{IsOpening};
 use block_file::{FusedOpener, KeepOpener, MemBlocks};
 use scsi_types::{Asked, Group, PortName, decode};
 use std::alloc::Global;
+use std::process::Abort;
 use std::test::Fail;
 use test_memory::{Opens, opened};
 use unit_events::Bytes;
@@ -70,46 +71,48 @@ fn group_of(number: usize) -> Group {
 }
 
 // So many zeros, and behind them so many of this byte.
-fn data_of(alloc: Global, zeros: usize, count: usize, byte: u8) -> Result<Bytes, Fail> {
+fn data_of(rt: &impl Abort, alloc: Global, zeros: usize, count: usize, byte: u8) -> Bytes {
     let mut data = Vec::new(alloc);
-    data.resize(zeros, 0)?;
-    data.resize(zeros.wrapping_add(count), byte)?;
-    Ok(Bytes::new(data))
+    data.resize(zeros, 0).expect(rt, "memory");
+    data.resize(zeros.wrapping_add(count), byte)
+        .expect(rt, "memory");
+    Bytes::new(data)
 }
 
 // The list of SET TARGET PORT GROUPS by which a group is active/optimized.
-fn list_of(alloc: Global, group: &str) -> Result<Bytes, Fail> {
-    data_of(alloc, 7, 1, group.parse()?)
+fn list_of(rt: &impl Abort, alloc: Global, group: &str) -> Bytes {
+    data_of(rt, alloc, 7, 1, group.parse().expect(rt, group))
 }
 
-// What a command asks, and its data.
-fn asked(alloc: Global, asks: &str) -> Result<(Asked, Bytes), Fail> {
-    let (word, byte) = words_of(asks);
-    let (cdb, zeros, count) = match word {
-        "test" => (&TEST, 0, 0),
-        "set" => (&SET, 7, 1),
-        "write" => (&WRITE, 0, 512),
-        "fua" => (&WRITE_FUA, 0, 512),
-        "beyond" => (&WRITE_BEYOND, 0, 512),
-        "synchronize" => (&SYNCHRONIZE, 0, 0),
-        _ => return Err("a command".into()),
-    };
-    let data = data_of(alloc, zeros, count, byte.parse().unwrap_or(0))?;
-    Ok((decode(cdb), data))
+// What a command asks, and behind how many zeros how many bytes of one value are its data.
+fn cdb_of(word: &str) -> Option<(&'static [u8; 16], usize, usize)> {
+    match word {
+        "test" => Some((&TEST, 0, 0)),
+        "set" => Some((&SET, 7, 1)),
+        "write" => Some((&WRITE, 0, 512)),
+        "fua" => Some((&WRITE_FUA, 0, 512)),
+        "beyond" => Some((&WRITE_BEYOND, 0, 512)),
+        "synchronize" => Some((&SYNCHRONIZE, 0, 0)),
+        _ => None,
+    }
 }
 
 // A session's command, which is handed in, or which its worker begins at once.
 fn command(
+    rt: &impl Abort,
     alloc: Global,
     begins: bool,
     session: usize,
     words: &str,
     is_late: bool,
-) -> Result<Event, Fail> {
+) -> Event {
     let (number, asks) = words_of(words);
-    let by_group = group_of(number.parse()?);
-    let (asked, bytes) = asked(alloc, asks)?;
-    Ok(if begins {
+    let by_group = group_of(number.parse().expect(rt, words));
+    let (word, byte) = words_of(asks);
+    let (cdb, zeros, count) = cdb_of(word).expect(rt, words);
+    let (asked, byte) = (decode(cdb), byte.parse().unwrap_or(0));
+    let bytes = data_of(rt, alloc, zeros, count, byte);
+    if begins {
         Event::Begin {
             session,
             by_group,
@@ -125,53 +128,54 @@ fn command(
             bytes,
             is_late,
         }
-    })
+    }
 }
 
 // The port of an ISID attaches to a unit through a group.
-fn attach(alloc: Global, place: usize, words: &str) -> Result<Event, Fail> {
+fn attach(rt: &impl Abort, alloc: Global, place: usize, words: &str) -> Event {
     let (isid, number) = words_of(words);
-    let name = Vec::from_slice(alloc, b"iqn.2000-01.test:a")?;
-    let port = PortName::new(name, isid.parse()?).ok_or("an ISID of six bytes")?;
-    let group = group_of(number.parse()?);
-    Ok(Event::Attach { place, port, group })
+    let name = Vec::from_slice(alloc, b"iqn.2000-01.test:a").expect(rt, "memory");
+    let port = PortName::new(name, isid.parse().expect(rt, words)).expect(rt, words);
+    let group = group_of(number.parse().expect(rt, words));
+    Event::Attach { place, port, group }
 }
 
 // An event of a unit, of a desk, or of a command that begins.
 fn other_event(
+    rt: &impl Abort,
     alloc: Global,
     verb: &str,
     place: usize,
     words: &str,
     is_late: bool,
-) -> Result<Event, Fail> {
+) -> Option<Event> {
     match verb {
-        "attach" => attach(alloc, place, words),
-        "move" => {
-            let list = list_of(alloc, words)?;
-            Ok(Event::Move { place, list })
-        }
-        "close" => Ok(Event::Close {
+        "attach" => Some(attach(rt, alloc, place, words)),
+        "move" => Some(Event::Move {
+            place,
+            list: list_of(rt, alloc, words),
+        }),
+        "close" => Some(Event::Close {
             group: group_of(place),
         }),
-        "take" => Ok(Event::Take {
+        "take" => Some(Event::Take {
             group: group_of(place),
         }),
-        "submit" => command(alloc, false, place, words, is_late),
-        "begin" => command(alloc, true, place, words, is_late),
-        _ => Err("an event".into()),
+        "submit" => Some(command(rt, alloc, false, place, words, is_late)),
+        "begin" => Some(command(rt, alloc, true, place, words, is_late)),
+        _ => None,
     }
 }
 
-fn event_of(alloc: Global, act: &str) -> Result<Event, Fail> {
+fn event_of(rt: &impl Abort, alloc: Global, act: &str) -> Event {
     let (verb, words) = words_of(act);
     let (number, words) = words_of(words);
-    let session = number.parse()?;
+    let session = number.parse().expect(rt, act);
     let (verb, is_late) = match verb.strip_suffix("-late") {
         Some(verb) => (verb, true),
         None => (verb, false),
     };
-    Ok(match verb {
+    match verb {
         "detach" => Event::Detach { session },
         "reset" => Event::Reset { session },
         "again" => Event::SubmitAgain { session, is_late },
@@ -184,15 +188,16 @@ fn event_of(alloc: Global, act: &str) -> Result<Event, Fail> {
             session,
             is_done: verb == "done",
         },
-        _ => return other_event(alloc, verb, session, words, is_late),
-    })
+        _ => other_event(rt, alloc, verb, session, words, is_late).expect(rt, act),
+    }
 }
 
 /// The events of a row, with commas between.
-pub fn events_of(alloc: Global, acts: &str) -> Result<Vec<Event>, Fail> {
+pub fn events_of(rt: &impl Abort, alloc: Global, acts: &str) -> Vec<Event> {
     let mut events = Vec::new(alloc);
     for act in acts.split(',') {
-        events.push(event_of(alloc, act.trim())?)?;
+        let event = event_of(rt, alloc, act.trim());
+        events.push(event).expect(rt, "memory");
     }
-    Ok(events)
+    events
 }
