@@ -67,13 +67,21 @@ impl End {
     }
 }
 
-// A number, where it is digits alone: one with a sign before it is none.
-fn digits_in(text: &str) -> Option<&str> {
-    if text.as_bytes().iter().all(|byte| byte.is_ascii_digit()) {
-        Some(text)
-    } else {
-        None
+/// What is told of what is seen of the array.
+#[derive(Clone, Copy)]
+enum Told {
+    Health,
+    Units,
+    Sessions,
+}
+
+// The number behind a word: digits alone, since one with a sign before it is none.
+fn number_behind(text: &str, word: &str) -> Option<u16> {
+    let digits = text.strip_prefix(word)?;
+    if !digits.as_bytes().iter().all(|byte| byte.is_ascii_digit()) {
+        return None;
     }
+    digits.parse::<u16>().ok()
 }
 
 // What a line has the array do. None: it asks something, or is none of those that there are.
@@ -85,10 +93,7 @@ fn deed_in(text: &str) -> Option<Deed> {
         "up 1" => Some(Deed::Up(Group::One)),
         "up 2" => Some(Deed::Up(Group::Two)),
         "quit" => Some(Deed::Quit),
-        _ => match digits_in(text.strip_prefix("end ")?)?.parse::<u16>() {
-            Ok(tsih) => Some(Deed::End(tsih)),
-            Err(_) => None,
-        },
+        _ => Some(Deed::End(number_behind(text, "end ")?)),
     }
 }
 
@@ -100,6 +105,13 @@ fn say_unit<W: Write>(alloc: Global, writer: &mut W, unit: &UnitView) -> io::Res
     write!(writer, "serial {serial} ")?;
     let (blocks, disk) = (unit.blocks, spelled(alloc, unit.disk.as_bytes())?);
     writeln!(writer, "blocks {blocks} disk \"{disk}\"")
+}
+
+fn say_units<W: Write>(alloc: Global, writer: &mut W, units: &[UnitView]) -> io::Result<()> {
+    for unit in units {
+        say_unit(alloc, writer, unit)?;
+    }
+    Ok(())
 }
 
 // Writes a line for a session. The name of its initiator, which a host chose, stands last and between quotes.
@@ -122,6 +134,13 @@ fn say_session<W: Write>(writer: &mut W, session: &SessionView) -> io::Result<()
     writeln!(writer, "initiator \"{initiator}\"")
 }
 
+fn say_sessions<W: Write>(writer: &mut W, sessions: &[SessionView]) -> io::Result<()> {
+    for session in sessions {
+        say_session(writer, session)?;
+    }
+    Ok(())
+}
+
 // Writes a line for a registration. The name of its initiator, which a host chose, stands last and between quotes.
 fn say_key<W: Write>(writer: &mut W, registration: &Registration) -> io::Result<()> {
     let (key, controller) = (registration.key.as_str(), registration.controller);
@@ -132,6 +151,35 @@ fn say_key<W: Write>(writer: &mut W, registration: &Registration) -> io::Result<
     )?;
     let initiator = registration.spelled.as_str();
     writeln!(writer, "initiator \"{initiator}\"")
+}
+
+fn say_keys<W: Write>(writer: &mut W, registrations: &[Registration]) -> io::Result<()> {
+    for registration in registrations {
+        say_key(writer, registration)?;
+    }
+    Ok(())
+}
+
+// Writes what is wrong and what is degraded: not done, where anything is wrong.
+fn say_health<W: Write>(alloc: Global, writer: &mut W, view: &ArrayView) -> io::Result<End> {
+    let text = health(alloc, view)?;
+    writer.write_all(text.as_bytes())?;
+    Ok(End::of(view.problems.is_empty()))
+}
+
+// Writes this of what is seen of the array.
+fn say_told<W: Write>(
+    alloc: Global,
+    writer: &mut W,
+    view: &ArrayView,
+    told: Told,
+) -> io::Result<End> {
+    match told {
+        Told::Health => return say_health(alloc, writer, view),
+        Told::Units => say_units(alloc, writer, &view.units)?,
+        Told::Sessions => say_sessions(writer, &view.sessions)?,
+    }
+    Ok(End::Done)
 }
 
 // Writes that there is no such line.
@@ -165,40 +213,14 @@ impl<R: Wait + Clock + Drop, A: Administered + Drop> Answers<R, A> {
         }
     }
 
-    // What is seen of the array: its sessions, and what is wrong.
-    fn view(&self, alloc: Global) -> io::Result<ArrayView> {
-        Ok(self.collector.collect(alloc, Seen::Health)?)
-    }
-
-    fn say_units<W: Write>(&self, alloc: Global, writer: &mut W) -> io::Result<()> {
-        for unit in &self.view(alloc)?.units {
-            say_unit(alloc, writer, unit)?;
-        }
-        Ok(())
-    }
-
-    fn say_sessions<W: Write>(&self, alloc: Global, writer: &mut W) -> io::Result<()> {
-        for session in &self.view(alloc)?.sessions {
-            say_session(writer, session)?;
-        }
-        Ok(())
-    }
-
-    fn say_version<W: Write>(&self, writer: &mut W) -> io::Result<()> {
-        let version = self.collector.version();
-        writeln!(writer, "arrayd {version}")
-    }
-
-    // Writes what is wrong and what is degraded: not done, where anything is wrong.
-    fn say_health<W: Write>(&self, alloc: Global, writer: &mut W) -> io::Result<End> {
-        let view = self.view(alloc)?;
-        let text = health(alloc, &view)?;
-        writer.write_all(text.as_bytes())?;
-        Ok(End::of(view.problems.is_empty()))
+    // Writes this of what is seen of the array: its sessions, and what is wrong.
+    fn say_seen<W: Write>(&self, alloc: Global, writer: &mut W, told: Told) -> io::Result<End> {
+        let view = self.collector.collect(alloc, Seen::Health)?;
+        say_told(alloc, writer, &view, told)
     }
 
     // Writes the registrations of a unit.
-    fn say_keys<W: Write>(&self, alloc: Global, writer: &mut W, unit: u8) -> io::Result<End> {
+    fn say_keys_of<W: Write>(&self, alloc: Global, writer: &mut W, unit: u8) -> io::Result<End> {
         let (array, place) = (&self.collector.array, usize::from(unit));
         if place >= array.count() {
             writer.write_all(b"no unit\n")?;
@@ -208,9 +230,7 @@ impl<R: Wait + Clock + Drop, A: Administered + Drop> Answers<R, A> {
             writer.write_all(b"busy\n")?;
             return Ok(End::NotDone);
         };
-        for registration in &registrations {
-            say_key(writer, registration)?;
-        }
+        say_keys(writer, &registrations)?;
         Ok(End::Done)
     }
 
@@ -221,26 +241,26 @@ impl<R: Wait + Clock + Drop, A: Administered + Drop> Answers<R, A> {
         writer: &mut W,
         text: &str,
     ) -> io::Result<End> {
-        if let Some(number) = text.strip_prefix("keys ")
-            && let Some(digits) = digits_in(number)
-            && let Ok(unit) = digits.parse::<u8>()
+        if let Some(number) = number_behind(text, "keys ")
+            && let Ok(unit) = u8::try_from(number)
         {
-            return self.say_keys(alloc, writer, unit);
+            return self.say_keys_of(alloc, writer, unit);
         }
         say_unknown(writer)
     }
 
     // Answers a question.
     fn tell<W: Write>(&self, alloc: Global, writer: &mut W, text: &str) -> io::Result<End> {
-        match text {
-            "status" => self.collector.array.say_status(&self.collector.rt, writer)?,
-            "health" => return self.say_health(alloc, writer),
-            "units" => self.say_units(alloc, writer)?,
-            "sessions" => self.say_sessions(alloc, writer)?,
-            "version" => self.say_version(writer)?,
-            "help" => writer.write_all(HELP.as_bytes())?,
+        let said = match text {
+            "status" => self.collector.array.say_status(&self.collector.rt, writer),
+            "health" => return self.say_seen(alloc, writer, Told::Health),
+            "units" => return self.say_seen(alloc, writer, Told::Units),
+            "sessions" => return self.say_seen(alloc, writer, Told::Sessions),
+            "version" => writeln!(writer, "arrayd {}", self.collector.version()),
+            "help" => writer.write_all(HELP.as_bytes()),
             _ => return self.tell_numbered(alloc, writer, text),
-        }
+        };
+        said?;
         Ok(End::Done)
     }
 

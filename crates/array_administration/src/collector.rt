@@ -3,6 +3,7 @@
 use crate::administered::Administered;
 use array_view::{ArrayView, Controller, PathView, Registration, SessionView, Signs, UnitView};
 use command_line::Options;
+use event_log::Log;
 use events::SessionType;
 use meters::{BOUNDS, Point, Seen, UnitHappenings};
 use scsi_types::Group;
@@ -47,6 +48,62 @@ impl<R: Wait + Clock + Drop, A: Administered + Drop> Drop for ArrayCollector<R, 
     }
 }
 
+// The parts of what is shown, each made by a call that may want memory: whether one did is told at the end.
+#[derive(Drop)]
+struct Parts {
+    alloc: Global,
+    is_wanting: bool,
+}
+
+impl Parts {
+    // None yet.
+    fn new(alloc: Global) -> Parts {
+        Parts {
+            alloc,
+            is_wanting: false,
+        }
+    }
+
+    // A text that was made; an empty one for want of memory.
+    fn text(&mut self, made: Result<String, AllocError>) -> String {
+        match made {
+            Ok(text) => text,
+            Err(_) => {
+                self.is_wanting = true;
+                String::new(self.alloc)
+            }
+        }
+    }
+
+    // A list likewise.
+    fn list<T: Drop>(&mut self, made: Result<Vec<T>, AllocError>) -> Vec<T> {
+        match made {
+            Ok(list) => list,
+            Err(_) => {
+                self.is_wanting = true;
+                Vec::new(self.alloc)
+            }
+        }
+    }
+
+    // Puts what was made behind a list.
+    fn put<T: Drop>(&mut self, list: &mut Vec<T>, made: Result<T, AllocError>) {
+        let is_put = match made {
+            Ok(item) => list.push(item).is_ok(),
+            Err(_) => false,
+        };
+        self.is_wanting = self.is_wanting || !is_put;
+    }
+
+    // What was made of them, unless memory was wanting.
+    fn whole<T: Drop>(self, made: T) -> Result<T, AllocError> {
+        if self.is_wanting {
+            return Err(AllocError);
+        }
+        Ok(made)
+    }
+}
+
 // What the words on the command line ask for, as it is shown.
 fn fixed_by(
     alloc: Global,
@@ -54,28 +111,19 @@ fn fixed_by(
     version: &'static str,
     origin: u64,
 ) -> Result<Fixed, AllocError> {
+    let mut parts = Parts::new(alloc);
     let mut disks = Vec::new(alloc);
     for path in &options.paths {
-        disks.push(array_view::named(alloc, path.as_bytes())?)?;
+        parts.put(&mut disks, array_view::named(alloc, path.as_bytes()));
     }
-    Ok(Fixed {
+    let target = parts.text(array_view::named(alloc, options.target.as_bytes()));
+    parts.whole(Fixed {
         version,
-        target: array_view::named(alloc, options.target.as_bytes())?,
+        target,
         array: u64::from(options.array),
         disks,
         origin: AtomicU64::new(origin),
     })
-}
-
-// The name at a place, and the one with `.reg` behind it.
-fn files_of(alloc: Global, disks: &[String], place: usize) -> Result<(String, String), AllocError> {
-    let disk = match disks.get(place) {
-        Some(disk) => disk.clone()?,
-        None => String::new(alloc),
-    };
-    let mut file = disk.clone()?;
-    file.push_str(".reg")?;
-    Ok((disk, file))
 }
 
 // The ways to a unit: by each controller, in which state, and with what was counted there.
@@ -87,26 +135,28 @@ fn paths_of(
 ) -> Result<Vec<PathView>, AllocError> {
     let first = place.saturating_mul(2);
     let second = first.saturating_add(1);
-    let mut paths = Vec::new(alloc);
-    paths.push(array_view::path(alloc, 1, row.states.0, seen.counts.get(first))?)?;
-    paths.push(array_view::path(alloc, 2, row.states.1, seen.counts.get(second))?)?;
-    Ok(paths)
+    let (mut parts, mut paths) = (Parts::new(alloc), Vec::new(alloc));
+    parts.put(
+        &mut paths,
+        array_view::path(alloc, 1, row.states.0, seen.counts.get(first)),
+    );
+    parts.put(
+        &mut paths,
+        array_view::path(alloc, 2, row.states.1, seen.counts.get(second)),
+    );
+    parts.whole(paths)
 }
 
-// By what hosts know a unit: the designator of type NAA and the serial number, as `identity` spells them, and what dm-multipath makes of
-// the first one.
-fn names_of(
-    alloc: Global,
-    array: u64,
-    place: usize,
-) -> Result<(String, String, String), AllocError> {
-    let naa = format!(in alloc; "3000{array:08x}00{place:02x}")?;
-    let serial = format!(in alloc; "{array:08x}{place:02}")?;
-    let wwid = format!(in alloc; "3{naa}")?;
-    Ok((naa, serial, wwid))
+// The disk at a place.
+fn disk_at(disks: &[String], place: usize) -> &str {
+    match disks.get(place) {
+        Some(disk) => disk.as_str(),
+        None => "",
+    }
 }
 
-// A unit as it is shown, of which something was counted.
+// A unit as it is shown, of which something was counted. Hosts know it by the designator of type NAA and the serial number, as `identity`
+// spells them, and by what dm-multipath makes of the first one.
 fn unit_of(
     alloc: Global,
     place: usize,
@@ -116,16 +166,18 @@ fn unit_of(
     seen: &Seen,
     happened: &UnitHappenings,
 ) -> Result<UnitView, AllocError> {
-    let (disk, registration_file) = files_of(alloc, &fixed.disks, place)?;
-    let (naa, serial, wwid) = names_of(alloc, fixed.array, place)?;
-    let paths = paths_of(alloc, place, row, seen)?;
+    let mut parts = Parts::new(alloc);
+    let (array, disk) = (fixed.array, disk_at(&fixed.disks, place));
+    let naa = parts.text(format!(in alloc; "3000{array:08x}00{place:02x}"));
+    let wwid = parts.text(format!(in alloc; "3{naa}"));
     let oldest = seen.oldest.get(place).copied().unwrap_or(0);
     let signs = Signs {
         oldest,
         silent: seen.silent.get(place).copied().unwrap_or(0),
         seen: Some(happened),
     };
-    Ok(UnitView {
+    let origin = fixed.origin.load(Ordering::Relaxed);
+    let unit = UnitView {
         unit: place as u64,
         owner: row.owner,
         generation: row.generation,
@@ -134,16 +186,16 @@ fn unit_of(
         reservation_type: row.kind,
         entries: row.entries,
         naa,
-        serial,
+        serial: parts.text(format!(in alloc; "{array:08x}{place:02}")),
         wwid,
-        disk,
-        registration_file,
+        disk: parts.text(String::from_str(alloc, disk)),
+        registration_file: parts.text(format!(in alloc; "{disk}.reg")),
         blocks: happened.blocks,
         health: array_view::health_words(&signs),
-        troubles: array_view::trouble_tallies(alloc, &signs)?,
-        failures: array_view::failure_views(alloc, fixed.origin.load(Ordering::Relaxed), happened)?,
-        disk_failures: array_view::failures(alloc, &happened.disk)?,
-        registration_failures: array_view::failures(alloc, &happened.registrations)?,
+        troubles: parts.list(array_view::trouble_tallies(alloc, &signs)),
+        failures: parts.list(array_view::failure_views(alloc, origin, happened)),
+        disk_failures: parts.list(array_view::failures(alloc, &happened.disk)),
+        registration_failures: parts.list(array_view::failures(alloc, &happened.registrations)),
         hung: happened
             .disk_hung
             .count
@@ -154,8 +206,9 @@ fn unit_of(
         waited_writes: happened.unflushed.waits,
         waited_micros: happened.unflushed.waited_micros,
         own_flushes: happened.unflushed.own_flushes,
-        paths,
-    })
+        paths: parts.list(paths_of(alloc, place, row, seen)),
+    };
+    parts.whole(unit)
 }
 
 // Whether no unit is served by a controller.
@@ -193,12 +246,12 @@ fn controller_of(
     seen: &Seen,
 ) -> Result<Controller, AllocError> {
     let tag = u64::from(group.number());
-    let mut addresses = Vec::new(alloc);
+    let (mut parts, mut addresses) = (Parts::new(alloc), Vec::new(alloc));
     for portal in portals {
-        addresses.push(format!(in alloc; "{portal}")?)?;
+        parts.put(&mut addresses, format!(in alloc; "{portal}"));
     }
     let (sessions, discoveries) = count_sessions(seen, tag);
-    Ok(Controller {
+    parts.whole(Controller {
         controller: tag,
         is_down: is_down(units, tag),
         portals: addresses,
@@ -214,21 +267,25 @@ fn controllers_of<A: Administered>(
     units: &[UnitView],
     seen: &Seen,
 ) -> Result<Vec<Controller>, AllocError> {
-    let mut controllers = Vec::new(alloc);
+    let (mut parts, mut controllers) = (Parts::new(alloc), Vec::new(alloc));
     for group in &[Group::One, Group::Two] {
-        let group = *group;
-        controllers.push(controller_of(alloc, group, array.portals(group), units, seen)?)?;
+        let portals = array.portals(*group);
+        parts.put(
+            &mut controllers,
+            controller_of(alloc, *group, portals, units, seen),
+        );
     }
-    Ok(controllers)
+    parts.whole(controllers)
 }
 
 // The sessions that live, as they are shown.
 fn sessions_of(alloc: Global, seen: &Seen) -> Result<Vec<SessionView>, AllocError> {
-    let mut sessions = Vec::with_capacity(alloc, seen.sessions.len())?;
+    let mut parts = Parts::new(alloc);
+    let mut sessions = parts.list(Vec::with_capacity(alloc, seen.sessions.len()));
     for session in &seen.sessions {
-        sessions.push(array_view::session(alloc, session)?)?;
+        parts.put(&mut sessions, array_view::session(alloc, session));
     }
-    Ok(sessions)
+    parts.whole(sessions)
 }
 
 // The units: their rows, their registrations where they are shown, which may be missing, and what is counted of them.
@@ -240,7 +297,7 @@ fn units_of<R: Wait, A: Administered>(
     seen: &Seen,
     shown: Shown,
 ) -> Result<Vec<UnitView>, AllocError> {
-    let mut found = Vec::new(alloc);
+    let (mut parts, mut units) = (Parts::new(alloc), Vec::new(alloc));
     for (place, happened) in seen.happened.units.iter().enumerate() {
         let Some(row) = array.row(rt, place) else {
             break;
@@ -250,9 +307,10 @@ fn units_of<R: Wait, A: Administered>(
             Shown::Status => array.registrations(alloc, place),
             Shown::Metrics | Shown::Health => None,
         };
-        found.push(unit_of(alloc, place, row, registrations, fixed, seen, happened)?)?;
+        let unit = unit_of(alloc, place, row, registrations, fixed, seen, happened);
+        parts.put(&mut units, unit);
     }
-    Ok(found)
+    parts.whole(units)
 }
 
 // Microseconds of a time; the greatest number where there are more.
@@ -314,26 +372,28 @@ impl<R: Wait + Clock + Drop, A: Administered + Drop> Collector for ArrayCollecto
             self.fixed.origin.store(origin, Ordering::Relaxed);
         }
         let seen = self.seen(alloc, now)?;
-        let array: &A = &self.array;
-        let units = units_of(&self.rt, alloc, array, &self.fixed, &seen, shown)?;
-        let controllers = controllers_of(alloc, array, &units, &seen)?;
-        let degraded = array_view::degraded(alloc, &units, &controllers)?;
-        let log = array.log();
-        let problems = array_view::problems(alloc, &units, log.is_stopping(), log.is_failing())?;
-        Ok(ArrayView {
+        let mut parts = Parts::new(alloc);
+        let (array, log): (&A, &Log) = (&self.array, self.array.log());
+        let units = parts.list(units_of(&self.rt, alloc, array, &self.fixed, &seen, shown));
+        let controllers = parts.list(controllers_of(alloc, array, &units, &seen));
+        let degraded = parts.list(array_view::degraded(alloc, &units, &controllers));
+        let (is_stopping, is_failing) = (log.is_stopping(), log.is_failing());
+        let problems = parts.list(array_view::problems(alloc, &units, is_stopping, is_failing));
+        let view = ArrayView {
             version: self.fixed.version,
-            target: self.fixed.target.clone()?,
+            target: parts.text(self.fixed.target.clone()),
             array: self.fixed.array,
             since: self.began_1970.as_secs(),
             uptime_micros: micros(now.saturating_sub(self.began)),
             controllers,
             units,
-            sessions: sessions_of(alloc, &seen)?,
+            sessions: parts.list(sessions_of(alloc, &seen)),
             logins: seen.happened.logins,
-            refused_logins: array_view::refusals(alloc, &seen.happened.refused)?,
-            bounds_micros: Vec::from_slice(alloc, &BOUNDS)?,
+            refused_logins: parts.list(array_view::refusals(alloc, &seen.happened.refused)),
+            bounds_micros: parts.list(Vec::from_slice(alloc, &BOUNDS)),
             problems,
             degraded,
-        })
+        };
+        parts.whole(view)
     }
 }

@@ -54,25 +54,30 @@ impl<R: Wait + Clock + Drop, A: Administered + Drop> Drop for ControlSocket<R, A
 }
 
 impl<R: Wait + Clock + Drop, A: Administered + Drop> ControlSocket<R, A> {
-    // Answers the lines of a connection, until its end. Behind the answer to one that ends the array the program ends.
+    // Answers a line of a connection. Behind the answer to one that ends the array the program ends.
+    fn answer(&self, alloc: Global, mut stream: &UnixStream, line: &[u8]) -> io::Result<()> {
+        let mut answer = Vec::new(alloc);
+        let answered = self.answers.answer(alloc, &mut answer, line);
+        let sent = stream.write_all(&answer);
+        self.answers.leave(line);
+        answered.and(sent)
+    }
+
+    // Answers the lines of a connection, until its end.
     fn attend(&self, alloc: Global, stream: &UnixStream) -> io::Result<()> {
         let patience = Some(Duration::from_secs(SILENCE));
         stream.set_read_timeout(patience)?;
         stream.set_write_timeout(patience)?;
-        let mut writer = stream;
         let mut read = 0u64;
         for line in BufReader::new(alloc, stream.take(MOST))?.split(alloc, b'\n') {
-            let line = line?;
+            let Ok(line) = line else {
+                break;
+            };
             // A line that was cut is none.
             read = read.saturating_add(line.len() as u64).saturating_add(1);
-            if read > MOST {
+            if read > MOST || self.answer(alloc, stream, &line).is_err() {
                 break;
             }
-            let mut answer = Vec::new(alloc);
-            let answered = self.answers.answer(alloc, &mut answer, &line);
-            let sent = writer.write_all(&answer);
-            self.answers.leave(&line);
-            answered.and(sent)?;
         }
         Ok(())
     }
