@@ -1,8 +1,8 @@
 //! What answers the requests of a connection.
 
 use crate::answer::{Seen, Wanted, asked_for};
-use crate::html::PAGE;
-use crate::script::SCRIPT;
+use crate::html::page;
+use crate::script::script;
 use array_view::{ArrayView, health, kept, metrics, status};
 use bytes::{BufMut, Bytes};
 use http::{HeaderName, HeaderValue, Request, StatusCode, header};
@@ -67,35 +67,48 @@ macro_rules! add {
 
 // Gives an answer its body.
 fn fill(response: &mut Response, kind: HeaderValue, body: Vec<u8>) -> Result<(), AllocError> {
-    add_header(response, header::CONTENT_TYPE, kind)?;
-    put_body(response, Bytes::from_vec(body)?)
+    let named = add_header(response, header::CONTENT_TYPE, kind);
+    let filled = put_body(response, Bytes::from_vec(body)?);
+    named.and(filled)
 }
 
 // A short answer.
 fn say(response: &mut Response, status: StatusCode, text: &[u8]) -> Result<(), AllocError> {
     response.status = status;
-    add!(response, header::CONTENT_TYPE, PLAIN)?;
-    put_text(response, text)
+    add!(response, header::CONTENT_TYPE, PLAIN).and(put_text(response, text))
 }
 
-// What is measured.
-fn tell_metrics(
+// What is seen, in one of these forms: its text, and of what kind that is.
+fn text_of(alloc: Global, view: &ArrayView, seen: Seen) -> Result<Vec<u8>, AllocError> {
+    match seen {
+        Seen::Metrics => Ok(metrics(alloc, view)?.into_bytes()),
+        Seen::Status => status(alloc, view),
+        Seen::Health => Ok(health(alloc, view)?.into_bytes()),
+    }
+}
+
+fn kind_of(seen: Seen) -> HeaderValue {
+    match seen {
+        Seen::Metrics => HeaderValue::from_static(MEASURED),
+        Seen::Status => HeaderValue::from_static(JSON),
+        Seen::Health => HeaderValue::from_static(PLAIN),
+    }
+}
+
+// What is seen. Where anything is wrong, the status of an answer on health says so too.
+fn tell_seen(
     alloc: Global,
     view: &ArrayView,
+    seen: Seen,
     response: &mut Response,
 ) -> Result<(), AllocError> {
-    let text = metrics(alloc, view)?;
-    fill(
-        response,
-        HeaderValue::from_static(MEASURED),
-        text.into_bytes(),
-    )
-}
-
-// What is seen.
-fn tell_status(alloc: Global, view: &ArrayView, response: &mut Response) -> Result<(), AllocError> {
-    let text = status(alloc, view)?;
-    fill(response, HeaderValue::from_static(JSON), text)
+    let text = text_of(alloc, view, seen)?;
+    if let Seen::Health = seen
+        && !view.problems.is_empty()
+    {
+        response.status = StatusCode::SERVICE_UNAVAILABLE;
+    }
+    fill(response, kind_of(seen), text)
 }
 
 // What was counted of late.
@@ -108,49 +121,23 @@ fn tell_recent(
     fill(response, HeaderValue::from_static(JSON), text)
 }
 
-// What is wrong.
-fn tell_health(alloc: Global, view: &ArrayView, response: &mut Response) -> Result<(), AllocError> {
-    if !view.problems.is_empty() {
-        response.status = StatusCode::SERVICE_UNAVAILABLE;
-    }
-    let text = health(alloc, view)?;
-    fill(response, HeaderValue::from_static(PLAIN), text.into_bytes())
-}
-
-// One of these.
-fn tell_seen(
-    alloc: Global,
-    view: &ArrayView,
-    seen: Seen,
-    response: &mut Response,
-) -> Result<(), AllocError> {
-    match seen {
-        Seen::Metrics => tell_metrics(alloc, view, response),
-        Seen::Status => tell_status(alloc, view, response),
-        Seen::Health => tell_health(alloc, view, response),
-    }
-}
-
-// The page.
-fn tell_page(response: &mut Response) -> Result<(), AllocError> {
-    add!(response, header::CONTENT_TYPE, HTML)?;
-    add!(response, header::CONTENT_SECURITY_POLICY, POLICY)?;
-    put_static(response, PAGE)?;
-    put_static(response, SCRIPT)
-}
-
 fn put_static(response: &mut Response, text: &'static str) -> Result<(), AllocError> {
     put_body(response, Bytes::from_static(text.as_bytes()))
 }
 
+// The page.
+fn tell_page(response: &mut Response) -> Result<(), AllocError> {
+    add!(response, header::CONTENT_TYPE, HTML)
+        .and(add!(response, header::CONTENT_SECURITY_POLICY, POLICY))
+        .and(put_static(response, page()))
+        .and(put_static(response, script()))
+}
+
 // That nothing can be done here.
 fn refuse(response: &mut Response) -> Result<(), AllocError> {
-    add!(response, header::ALLOW, "GET, HEAD")?;
-    say(
-        response,
-        StatusCode::METHOD_NOT_ALLOWED,
-        b"only GET and HEAD\n",
-    )
+    let allowed = add!(response, header::ALLOW, "GET, HEAD");
+    let text = b"only GET and HEAD\n";
+    allowed.and(say(response, StatusCode::METHOD_NOT_ALLOWED, text))
 }
 
 // That the request was meant for another server.
@@ -198,9 +185,9 @@ impl<'a, S: Collector> Handler<'a, S> {
 
 // What every answer says.
 fn put_common(response: &mut Response) -> Result<(), AllocError> {
-    add!(response, header::CONNECTION, "close")?;
-    add!(response, header::CACHE_CONTROL, "no-store")?;
-    add!(response, header::X_CONTENT_TYPE_OPTIONS, "nosniff")
+    add!(response, header::CONNECTION, "close")
+        .and(add!(response, header::CACHE_CONTROL, "no-store"))
+        .and(add!(response, header::X_CONTENT_TYPE_OPTIONS, "nosniff"))
 }
 
 impl<S: Collector> Service for Handler<'_, S> {

@@ -2,7 +2,7 @@
 //! here as a browser reads it.
 
 /// HTML, up to where the script begins.
-pub(crate) const PAGE: &str = "<!doctype html>
+const PAGE: &str = "<!doctype html>
 <html lang='en'><head><meta charset='utf-8'><title>arrayd</title>
 <meta name='viewport' content='width=device-width, initial-scale=1'>
 <link rel='icon' href='data:,'>
@@ -77,3 +77,7 @@ button:focus-visible { outline: 3px solid var(--one); }
 </main>
 <script>
 ";
+
+pub(crate) fn page() -> &'static str {
+    PAGE
+}

@@ -2,7 +2,7 @@
 //! here as a browser reads it.
 
 /// The script, and the end of the page behind it. What is seen goes into the page as text alone.
-pub(crate) const SCRIPT: &str = "'use strict';
+const SCRIPT: &str = "'use strict';
 const EVERY = 2000, PATIENCE = 5000, KEPT = 600, STEP = 10, SVG = 'http://www.w3.org/2000/svg';
 const TYPES = { 0: 'none', 1: 'write exclusive', 3: 'exclusive access', 5: 'write exclusive, registrants only',
   6: 'exclusive access, registrants only', 7: 'write exclusive, all registrants', 8: 'exclusive access, all registrants' };
@@ -374,3 +374,7 @@ find('pause').addEventListener('click', event => {
 look();
 </script></body></html>
 ";
+
+pub(crate) fn script() -> &'static str {
+    SCRIPT
+}

@@ -59,8 +59,6 @@ struct Guests {
     begun: u64,
 }
 
-type Door = Mutex<Guests>;
-
 impl Guests {
     // None yet.
     fn none(alloc: Global) -> Guests {
@@ -92,6 +90,13 @@ impl Guests {
         self.served.retain(|guest| guest.number != number);
         self.threads = self.threads.saturating_sub(1);
     }
+}
+
+// A window: what collects for it, and the connections that it serves.
+#[derive(Drop)]
+struct Window<S: Collector + Drop> {
+    collector: S,
+    guests: Mutex<Guests>,
 }
 
 // What is left of so many milliseconds that began then; TimedOut where that is no more than one, as a time of 0 is refused.
@@ -209,16 +214,15 @@ fn attend<R: Clock + RandomSource, S: Collector>(
 }
 
 // Serves a connection, and lets it go.
-fn work<R: Clock + RandomSource + Wait, S: Collector>(
+fn work<R: Clock + RandomSource + Wait, S: Collector + Drop>(
     rt: &R,
     alloc: Global,
-    collector: &S,
-    door: &Door,
+    window: &Window<S>,
     number: u64,
     stream: &TcpStream,
 ) {
-    let _ = attend(rt, alloc, collector, stream);
-    door.lock(rt).leave(number);
+    let _ = attend(rt, alloc, &window.collector, stream);
+    window.guests.lock(rt).leave(number);
 }
 
 // Starts the thread of a connection.
@@ -228,15 +232,12 @@ fn start<
 >(
     rt: &R,
     alloc: Global,
-    collector: &Arc<S, Global>,
-    door: &Arc<Door, Global>,
+    window: &Arc<Window<S>, Global>,
     number: u64,
     stream: Arc<TcpStream, Global>,
 ) -> io::Result<()> {
-    let collector = Arc::try_clone(collector)?;
-    let door = Arc::try_clone(door)?;
-    let mine = rt.clone()?;
-    let work = move || work::<R, S>(&mine, alloc, &collector, &door, number, &stream);
+    let (mine, window) = (rt.clone()?, Arc::try_clone(window)?);
+    let work = move || work::<R, S>(&mine, alloc, &window, number, &stream);
     let _thread: JoinHandle<()> = Builder::new().stack_size(STACK).spawn(rt, work)?;
     Ok(())
 }
@@ -245,20 +246,14 @@ fn start<
 fn receive<
     R: Threads + Clock + RandomSource + Wait + Clone + Drop + Send + 'static,
     S: Collector + Drop + Send + Sync + 'static,
->(
-    rt: &R,
-    alloc: Global,
-    collector: &Arc<S, Global>,
-    door: &Arc<Door, Global>,
-    stream: TcpStream,
-) -> io::Result<()> {
+>(rt: &R, alloc: Global, window: &Arc<Window<S>, Global>, stream: TcpStream) -> io::Result<()> {
     let stream = Arc::new(alloc, stream)?;
-    let Some(number) = door.lock(rt).admit(Arc::try_clone(&stream)?) else {
+    let Some(number) = window.guests.lock(rt).admit(Arc::try_clone(&stream)?) else {
         return Ok(());
     };
-    let started = start(rt, alloc, collector, door, number, stream);
+    let started = start(rt, alloc, window, number, stream);
     if started.is_err() {
-        door.lock(rt).leave(number);
+        window.guests.lock(rt).leave(number);
     }
     started
 }
@@ -267,17 +262,11 @@ fn receive<
 fn accept<
     R: Threads + Clock + RandomSource + Wait + Clone + Drop + Send + 'static,
     S: Collector + Drop + Send + Sync + 'static,
->(
-    rt: &R,
-    alloc: Global,
-    listener: &TcpListener,
-    collector: &Arc<S, Global>,
-    door: &Arc<Door, Global>,
-) {
+>(rt: &R, alloc: Global, listener: &TcpListener, window: &Arc<Window<S>, Global>) {
     for stream in listener.incoming() {
         match stream {
             Ok(stream) => {
-                let _ = receive(rt, alloc, collector, door, stream);
+                let _ = receive(rt, alloc, window, stream);
             }
             Err(_) => thread::sleep(rt, Duration::from_millis(REST)),
         }
@@ -289,10 +278,12 @@ pub fn open<
     R: Threads + Clock + RandomSource + Wait + Clone + Drop + Send + 'static,
     S: Collector + Drop + Send + Sync + 'static,
 >(rt: &R, alloc: Global, listener: TcpListener, collector: S) -> io::Result<()> {
-    let collector = Arc::new(alloc, collector)?;
-    let door = Arc::new(alloc, Mutex::new(Guests::none(alloc)))?;
-    let mine = rt.clone()?;
-    let work = move || accept::<R, S>(&mine, alloc, &listener, &collector, &door);
+    let window = Window {
+        collector,
+        guests: Mutex::new(Guests::none(alloc)),
+    };
+    let (mine, window) = (rt.clone()?, Arc::new(alloc, window)?);
+    let work = move || accept::<R, S>(&mine, alloc, &listener, &window);
     let _thread: JoinHandle<()> = Builder::new().stack_size(STACK).spawn(rt, work)?;
     Ok(())
 }
