@@ -12,7 +12,7 @@ use std::time::Clock;
 const APART: u16 = 4;
 
 /// Where a controller listens: at so many ports from this one on. Controller 2 may have an address of its own.
-#[derive(Clone, Copy, PartialEq, Eq)]
+#[derive(Clone, Copy)]
 pub struct Ports {
     pub host: Ipv4Addr,
     pub second_host: Ipv4Addr,
