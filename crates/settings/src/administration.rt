@@ -1,6 +1,6 @@
 //! What the environment asks for to administer the array by: the window and the control socket.
 
-use crate::environment::value_of;
+use crate::environment::{of_variable, value_of};
 use crate::usage::VERSION;
 use array_administration::{Administration, bind_window};
 use command_line::Fault;
@@ -50,8 +50,8 @@ fn control_at<R: Env + AllocGlobal>(rt: &R) -> Result<Option<String>, Fault> {
 /// What the environment asks for; or why it is refused, and the variable.
 pub fn read<R: Env + AllocGlobal>(rt: &R) -> Result<Asked, (Fault, &'static str)> {
     Ok(Asked {
-        http: window_at(rt).map_err(|fault| (fault, HTTP))?,
-        control: control_at(rt).map_err(|fault| (fault, CONTROL))?,
+        http: of_variable(HTTP, window_at(rt))?,
+        control: of_variable(CONTROL, control_at(rt))?,
     })
 }
 

@@ -33,6 +33,17 @@ pub(crate) fn value_of<R: Env + AllocGlobal>(rt: &R, name: &str) -> Result<Optio
     }
 }
 
+/// What was read of a variable; or why it is refused, and the variable.
+pub(crate) fn of_variable<T: Drop>(
+    name: &'static str,
+    read: Result<T, Fault>,
+) -> Result<T, (Fault, &'static str)> {
+    match read {
+        Ok(value) => Ok(value),
+        Err(fault) => Err((fault, name)),
+    }
+}
+
 // How long a call of a unit's file may take, where the environment says so: from one second to an hour.
 fn deadline<R: Env + AllocGlobal>(rt: &R) -> Result<Option<Duration>, Fault> {
     let Some(text) = value_of(rt, DEADLINE)? else {
@@ -128,8 +139,8 @@ pub struct Settings {
 /// What the environment asks for; or why it is refused, and the variable.
 pub fn read<R: Env + AllocGlobal>(rt: &R) -> Result<Settings, (Fault, &'static str)> {
     Ok(Settings {
-        patience: deadline(rt).map_err(|fault| (fault, DEADLINE))?,
-        second_host: second_host(rt).map_err(|fault| (fault, SECOND_HOST))?,
+        patience: of_variable(DEADLINE, deadline(rt))?,
+        second_host: of_variable(SECOND_HOST, second_host(rt))?,
         asked: administration::read(rt)?,
     })
 }

@@ -256,6 +256,26 @@ impl<R: Files<File = File> + AllocGlobal + Drop> Page for LogFile<R> {
     }
 }
 
+// The file of this page, held, where none of these names leads to it, or to a file beside it.
+fn held_beside<R: Files<File = File> + AllocGlobal + Drop>(
+    page: &LogFile<R>,
+    alloc: Global,
+    names: &[String],
+) -> Result<Option<File>, AllocError> {
+    let mut disks = Vec::new(alloc);
+    for name in names {
+        disks.push(name.as_str())?;
+    }
+    Ok(page.held(disks.as_slice()).ok())
+}
+
+// The line of an event that happens now.
+fn line_of(rt: &impl Clock, alloc: Global, event: &Event<'_>) -> Result<String, AllocError> {
+    let mut line = String::new(alloc);
+    put_line(&mut line, Stamp::now(rt), event)?;
+    Ok(line)
+}
+
 /// Writes one event to the file that the environment names, where it names one, with no thread: the program ends behind it.
 pub fn write_one<R: Clock + Env + AllocGlobal + Files<File = File> + Clone + Drop>(
     rt: &R,
@@ -268,16 +288,9 @@ pub fn write_one<R: Clock + Env + AllocGlobal + Files<File = File> + Clone + Dro
     // No disk gets a line: none that is served, and none that a word names, or that lies beside one. Where a word cannot be looked at,
     // none is written.
     let names = names(rt)?;
-    let mut disks = Vec::new(alloc);
-    for name in names.as_slice() {
-        disks.push(name.as_str())?;
+    if let Some(mut file) = held_beside(&page, alloc, &names)? {
+        let line = line_of(rt, alloc, event)?;
+        let _ = file.write_all(line.as_bytes());
     }
-    let Ok(file) = page.held(disks.as_slice()) else {
-        return Ok(());
-    };
-    let mut line = String::new(alloc);
-    put_line(&mut line, Stamp::now(rt), event)?;
-    let mut file: &File = &file;
-    let _ = file.write_all(line.as_bytes());
     Ok(())
 }
