@@ -267,8 +267,12 @@ impl<F: LastingFile> FileBlocks<F> {
             × (self.new.tally ≡ self.old.tally) × (self.new.writes ≡ self.old.writes) }
         ensures shared { IfSome result (λ share. IsSomeAnd self.new.flushes (λ mine. arc_value mine ≡ arc_value share)) }
     {
-        let flushes = Arc::new(alloc, Flushes::new(handles)).ok()?;
-        let share = Arc::try_clone(&flushes).ok()?;
+        let Ok(flushes) = Arc::new(alloc, Flushes::new(handles)) else {
+            return None;
+        };
+        let Ok(share) = Arc::try_clone(&flushes) else {
+            return None;
+        };
         flushes.tell(self.writes.count);
         self.flushes = Some(flushes);
         Some(share)

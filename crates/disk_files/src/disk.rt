@@ -68,20 +68,33 @@ pub fn open_disk<R: Files<File = File> + Drop>(
         Ok(blocks) => blocks,
         Err(fault) => return Err(DiskFault::File(fault)),
     };
+    match locked(rt, alloc, path, blocks.node()) {
+        Ok((lock, opener)) => Ok(Disk {
+            blocks,
+            opener,
+            lock,
+        }),
+        Err(fault) => Err(fault),
+    }
+}
+
+// The lock and the opener of this file, which had this name.
+fn locked<R: Files<File = File> + Drop>(
+    rt: R,
+    alloc: Global,
+    path: &str,
+    node: Node,
+) -> Result<(DiskLock, FileOpener<R>), DiskFault> {
     let lock = match DiskLock::take(&rt, path) {
         Ok(lock) => lock,
         Err(fault) => return Err(fault),
     };
     // Another file may have taken the name in between.
-    if !blocks.node().is(lock.node) {
+    if !node.is(lock.node) {
         return Err(DiskFault::File(FileFault::NotOpened(0)));
     }
-    let Ok(opener) = FileOpener::new(rt, alloc, path) else {
-        return Err(DiskFault::NoMemory);
-    };
-    Ok(Disk {
-        blocks,
-        opener,
-        lock,
-    })
+    match FileOpener::new(rt, alloc, path) {
+        Ok(opener) => Ok((lock, opener)),
+        Err(_) => Err(DiskFault::NoMemory),
+    }
 }

@@ -23,6 +23,15 @@ pub fn number_of(e: &io::Error) -> u32 {
     }
 }
 
+// Why a file is not opened.
+fn fault_of(e: &io::Error) -> FileFault {
+    if e.kind() == ErrorKind::NotFound {
+        FileFault::NotThere
+    } else {
+        FileFault::NotOpened(number_of(e))
+    }
+}
+
 /// A file of the system, through one handle that reads and writes.
 #[derive(Drop)]
 pub struct SystemFile {
@@ -44,8 +53,7 @@ impl SystemFile {
     {
         match File::options().read(true).write(true).open(rt, path) {
             Ok(handle) => SystemFile::of(handle).ok_or(FileFault::NotOpened(0)),
-            Err(e) if e.kind() == ErrorKind::NotFound => Err(FileFault::NotThere),
-            Err(e) => Err(FileFault::NotOpened(number_of(&e))),
+            Err(e) => Err(fault_of(&e)),
         }
     }
 
