@@ -1,44 +1,24 @@
 //! What is read ahead, where the calls of a disk have a deadline: of READs that came together a thread is asked for the first one, and
 //! reads for the others behind its answer.
-ghost use Rattle.std.specs.Prelude.{false};
-
 use crate::ends::must;
+use crate::fake::NODE;
+use crate::files::{disk_in, memory};
+use crate::reads_beside::{BEFORE, SINCE};
+use crate::seen::{SeeingPreparer, Seen, TRIES, share};
 use block_file::{Blocks, KeepOpener};
 use deadline::DeadlinedPreparer;
 use disk_files::FileBlocks;
-use disk_preparer::{BlockMemory, Node, Preparer};
+use disk_preparer::{BlockMemory, Preparer};
 use file_preparer::FilePreparer;
 use std::alloc::Global;
-use std::fs::File;
-use std::sync::Arc;
-use std::sync::atomic::{AtomicU64, Ordering};
 use std::time::{Clock, Duration};
 use std::{process, thread};
-use test_disks::{clean, folder, given, path_of, sized, timed, watch, writes};
+use test_disks::{clean, folder, given, timed, watch, writes};
 
 /// So many seconds a call may take, and so many READs come together, from block 1 on.
 const PATIENCE: u64 = 60;
 
 const READS: u64 = 3;
-
-/// So often they come until a thread has read ahead in time, or one looks whether it has, a millisecond each.
-const TRIES: u32 = 10_000;
-
-/// What a block has when it is read ahead, and what it has from then on.
-const BEFORE: u8 = 0x11;
-
-const SINCE: u8 = 0x22;
-
-/// A disk in no file.
-const NO_FILE: Node = Node {
-    device: 0,
-    number: 0,
-};
-
-// Memory for one block.
-fn memory(alloc: Global) -> Option<Vec<u8>> {
-    vec![in alloc; 0xDD; 512].ok()
-}
 
 // What the first of READs that came together finds.
 fn first<P: Preparer>(alloc: Global, preparer: &P) -> Option<BlockMemory> {
@@ -84,9 +64,8 @@ fn taken<B: Blocks, P: Preparer>(
 fn what_is_read_ahead_is_taken_unless_a_write_has_come_back_since(rt: HostRuntime) {
     let alloc = rt.alloc();
     let folder = folder(&rt, process::id(rt.process()), "ahead").expect(&rt, "a folder");
-    let path = path_of(alloc, folder.as_str(), "disk").expect(&rt, "memory");
+    let path = disk_in(&rt, alloc, folder.as_str());
     let path = path.as_str();
-    must(&rt, sized(File::create(&rt, path), 2048), "a file", &path);
     let mut blocks = FileBlocks::open(&rt, path).expect(&rt, path);
     let mut other = FileBlocks::open(&rt, path).expect(&rt, path);
     let by = FilePreparer::open(rt, alloc, path, &mut blocks, None);
@@ -102,77 +81,12 @@ fn what_is_read_ahead_is_taken_unless_a_write_has_come_back_since(rt: HostRuntim
     clean(&rt, folder.as_str()).expect(&rt, "a folder");
 }
 
-/// How many READs a disk was asked for, at how many of them it looked, and the block of the last one of these.
-struct Seen {
-    reads: AtomicU64,
-    looks: AtomicU64,
-    looked_at: AtomicU64,
-}
-
-impl Drop for Seen {
-    fn drop(self) {
-        let Self {
-            reads: _,
-            looks: _,
-            looked_at: _,
-        } = self;
-    }
-}
-
-/// A preparer that keeps what it was asked to read.
-#[derive(Drop)]
-struct Keeping {
-    disk: Node,
-    seen: Arc<Seen, Global>,
-}
-
-impl Preparer for Keeping {
-    ghost may_flush = { false };
-
-    ghost disk = { λ p. p.disk };
-
-    ghost has_flushed = { λ disk. Unit {0} };
-
-    fn wants_hints(&self) -> bool {
-        false
-    }
-
-    fn advise(&self, _first: u64, _blocks: u16) {}
-
-    fn advise_edges(&self, _first: u64, _blocks: u16) {}
-
-    fn wants(&self, _serial: u64) -> bool {
-        false
-    }
-
-    fn fetch(&self, _first: u64, _blocks: u16) {}
-
-    fn fetch_edges(&self, _first: u64, _blocks: u16) {}
-
-    fn read(&self, first: u64, bytes: Vec<u8>, is_looked_at: bool) -> Option<BlockMemory> {
-        if is_looked_at {
-            self.seen.looks.fetch_add(1, Ordering::Relaxed);
-            self.seen.looked_at.store(first, Ordering::Relaxed);
-        }
-        self.seen.reads.fetch_add(1, Ordering::Release);
-        Some(BlockMemory::fresh(bytes))
-    }
-
-    fn flushes(&self) -> bool {
-        false
-    }
-
-    fn flush(&self) -> bool {
-        false
-    }
-}
-
 // How often a disk that was asked for all READs looked, and at which block last; none where it is not asked for them all.
 fn looks(rt: &impl Clock, seen: &Seen) -> Option<(u64, u64)> {
     for _ in 0..TRIES {
-        if seen.reads.load(Ordering::Acquire) == READS {
-            let (looks, block) = (&seen.looks, &seen.looked_at);
-            return Some((looks.load(Ordering::Relaxed), block.load(Ordering::Relaxed)));
+        let looks = seen.looks_of(READS);
+        if looks.is_some() {
+            return looks;
         }
         thread::sleep(rt, Duration::from_millis(1));
     }
@@ -184,18 +98,15 @@ fn looks(rt: &impl Clock, seen: &Seen) -> Option<(u64, u64)> {
 #[test]
 fn the_first_block_that_is_read_ahead_is_looked_at(rt: HostRuntime) {
     let alloc = rt.alloc();
-    let seen = Seen {
-        reads: AtomicU64::new(0),
-        looks: AtomicU64::new(0),
-        looked_at: AtomicU64::new(0),
+    let seen = Seen::nothing(&rt, alloc);
+    let by = SeeingPreparer {
+        rt,
+        seen: share(&rt, &seen),
+        flushes: false,
+        is_done: false,
     };
-    let seen = Arc::new(alloc, seen).expect(&rt, "memory");
-    let by = Keeping {
-        disk: NO_FILE,
-        seen: Arc::try_clone(&seen).expect(&rt, "memory"),
-    };
-    let watch = watch(alloc, PATIENCE, NO_FILE).expect(&rt, "memory");
-    let preparer = DeadlinedPreparer::start(&rt, alloc, by, NO_FILE, &watch).expect(&rt, "threads");
+    let watch = watch(alloc, PATIENCE, NODE).expect(&rt, "memory");
+    let preparer = DeadlinedPreparer::start(&rt, alloc, by, NODE, &watch).expect(&rt, "threads");
     must(&rt, first(alloc, &preparer).is_some(), "block 1", &());
     let looks = looks(&rt, &seen);
     must(&rt, looks == Some((1, 2)), "looks", &looks);

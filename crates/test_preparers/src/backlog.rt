@@ -1,5 +1,6 @@
 //! What was written to a disk and is not flushed: what counts as flushed, who waits for that, and for how long.
 use crate::ends::{fail, must};
+use crate::files::disk_in;
 use disk_files::{FileBlocks, FileLog};
 use disk_preparer::{Account, Preparer};
 use event_log::Log;
@@ -7,12 +8,11 @@ use events::Part;
 use file_preparer::{Backlog, FilePreparer, FlushEnd};
 use meters::{Meters, Unflushed};
 use std::alloc::Global;
-use std::fs::File;
 use std::process;
 use std::process::Abort;
 use std::sync::{Arc, Wait};
 use std::time::{Clock, Duration};
-use test_disks::{clean, folder, path_of, sized};
+use test_disks::{clean, folder};
 
 /// What the kernel lets programs write.
 const FREE: u64 = 256 << 20;
@@ -201,9 +201,8 @@ fn are_counted<R: Wait + Abort>(rt: &R, alloc: Global, log: &Log) {
 fn a_wait_ends_with_a_flush_or_with_its_time(rt: HostRuntime) {
     let alloc = rt.alloc();
     let folder = folder(&rt, process::id(rt.process()), "backlog").expect(&rt, "a folder");
-    let path = path_of(alloc, folder.as_str(), "disk").expect(&rt, "memory");
+    let path = disk_in(&rt, alloc, folder.as_str());
     let path = path.as_str();
-    must(&rt, sized(File::create(&rt, path), 2048), "a file", &path);
     let mut blocks = FileBlocks::open(&rt, path).expect(&rt, path);
     let log = counting(&rt, alloc);
     let file_log = FileLog::new(log.share().expect(&rt, "memory"), 1, Part::Disk);

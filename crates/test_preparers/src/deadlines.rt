@@ -1,15 +1,17 @@
-//! Calls that have a deadline, over a disk that counts what it is asked, and stands still when it is told to.
-ghost use Rattle.std.specs.Prelude.{[], true, false};
+//! Calls that have a deadline, over a disk that counts what it is asked, and stands still when it is told to (`seen`).
+ghost use Rattle.std.specs.Prelude.{[], false};
 ghost use Rattle.block_file.specs.Failures.{last_count};
 
 use crate::ends::must;
+use crate::fake::NODE;
+use crate::files::memory;
+use crate::seen::{SeeingPreparer, Seen, TRIES, share};
 use block_file::{Blocks, DeviceFailed, KeepOpener, MemBlocks};
 use deadline::DeadlinedPreparer;
 use disk_files::FileDevice;
-use disk_preparer::{BlockMemory, Node, OnDisk, Preparer};
+use disk_preparer::{Node, OnDisk, Preparer};
 use std::alloc::Global;
 use std::process::Abort;
-use std::sync::atomic::{AtomicU64, Ordering};
 use std::sync::{Arc, Wait};
 use std::thread::{self, Threads};
 use std::time::{Clock, Duration};
@@ -17,61 +19,6 @@ use test_disks::{Row, is_done_on, reads, row_of, timed, watch};
 
 /// So many seconds a call may take.
 const PATIENCE: u64 = 1;
-
-/// So often one looks for what another thread does, a millisecond each.
-const TRIES: u64 = 10_000;
-
-/// A disk in no file.
-const NO_FILE: Node = Node {
-    device: 0,
-    number: 0,
-};
-
-/// What a disk was asked, and for how long it stands still.
-struct Seen {
-    stands: AtomicU64,
-    reads: AtomicU64,
-    writes: AtomicU64,
-    flushes: AtomicU64,
-}
-
-impl Drop for Seen {
-    fn drop(self) {
-        let Self {
-            stands: _,
-            reads: _,
-            writes: _,
-            flushes: _,
-        } = self;
-    }
-}
-
-impl Seen {
-    // Counts a call, which comes back when the disk does not stand still.
-    fn call<R: Clock>(&self, rt: &R, count: &AtomicU64) {
-        count.fetch_add(1, Ordering::AcqRel);
-        for tried in 0..TRIES {
-            if tried >= self.stands.load(Ordering::Acquire) {
-                break;
-            }
-            thread::sleep(rt, Duration::from_millis(1));
-        }
-    }
-
-    // From now on the disk stands still for so many milliseconds a call.
-    fn stand(&self, time: u64) {
-        self.stands.store(time, Ordering::Release);
-    }
-
-    // Reads, writes and flushes so far.
-    fn counts(&self) -> (u64, u64, u64) {
-        (
-            self.reads.load(Ordering::Acquire),
-            self.writes.load(Ordering::Acquire),
-            self.flushes.load(Ordering::Acquire),
-        )
-    }
-}
 
 /// The device of the disk. Of its contents it claims nothing.
 #[derive(Drop)]
@@ -155,7 +102,7 @@ impl<B: Blocks> FileDevice for Seeing<B> {
     ghost is_lost = { λ d. false };
 
     fn disk(&self) -> Node {
-        NO_FILE
+        NODE
     }
 
     fn ended_writes(&self) -> u64 {
@@ -175,68 +122,6 @@ impl<B: Blocks> FileDevice for Seeing<B> {
     }
 }
 
-/// Its preparer, whose reads fail.
-#[derive(Drop)]
-struct SeeingPreparer {
-    disk: Node,
-    rt: HostRuntime,
-    seen: Arc<Seen, Global>,
-}
-
-impl Preparer for SeeingPreparer {
-    ghost may_flush = { true };
-
-    ghost disk = { λ p. p.disk };
-
-    ghost has_flushed = { λ disk. Unit {0} };
-
-    fn wants_hints(&self) -> bool {
-        false
-    }
-
-    fn advise(&self, _first: u64, _blocks: u16) {}
-
-    fn advise_edges(&self, _first: u64, _blocks: u16) {}
-
-    fn wants(&self, _serial: u64) -> bool {
-        false
-    }
-
-    fn fetch(&self, _first: u64, _blocks: u16) {}
-
-    fn fetch_edges(&self, _first: u64, _blocks: u16) {}
-
-    fn read(&self, _first: u64, bytes: Vec<u8>, _is_looked_at: bool) -> Option<BlockMemory> {
-        self.seen.call(&self.rt, &self.seen.reads);
-        Some(BlockMemory::fresh(bytes))
-    }
-
-    fn flushes(&self) -> bool {
-        true
-    }
-
-    fn flush(&self) -> bool {
-        self.seen.call(&self.rt, &self.seen.flushes);
-        true
-    }
-}
-
-// What such a disk has seen: nothing yet.
-fn nothing(rt: &impl Abort, alloc: Global) -> Arc<Seen, Global> {
-    let seen = Seen {
-        stands: AtomicU64::new(0),
-        reads: AtomicU64::new(0),
-        writes: AtomicU64::new(0),
-        flushes: AtomicU64::new(0),
-    };
-    Arc::new(alloc, seen).expect(rt, "memory")
-}
-
-// Once more what it has seen.
-fn share(rt: &impl Abort, seen: &Arc<Seen, Global>) -> Arc<Seen, Global> {
-    Arc::try_clone(seen).expect(rt, "memory")
-}
-
 // Whether the device is served again in time: block 2 is read, which these bytes fill.
 fn is_served<B: Blocks>(rt: &impl Clock, device: &mut B, bytes: &[u8]) -> bool {
     for _ in 0..TRIES {
@@ -250,7 +135,7 @@ fn is_served<B: Blocks>(rt: &impl Clock, device: &mut B, bytes: &[u8]) -> bool {
 
 // Whether a read beside the device, which fails, gives memory that holds nothing.
 fn is_fresh<P: Preparer>(alloc: Global, preparer: &P) -> bool {
-    let Ok(bytes) = vec![in alloc; 0xDD; 512] else {
+    let Some(bytes) = memory(alloc) else {
         return false;
     };
     match preparer.read(2, bytes, true) {
@@ -309,20 +194,21 @@ fn play_over_a_disk<R: Threads + Wait + Clock + Abort + Clone + Drop + Send + Sy
     alloc: Global,
     script: &str,
 ) {
-    let seen = nothing(rt, alloc);
-    let watch = watch(alloc, PATIENCE, NO_FILE).expect(rt, "memory");
+    let seen = Seen::nothing(rt, alloc);
+    let watch = watch(alloc, PATIENCE, NODE).expect(rt, "memory");
     let blocks = Seeing {
         inner: MemBlocks::new(alloc, 16).expect(rt, "memory"),
         rt: host,
         seen: share(rt, &seen),
     };
     let by = SeeingPreparer {
-        disk: NO_FILE,
         rt: host,
         seen: share(rt, &seen),
+        flushes: true,
+        is_done: true,
     };
-    let preparer = DeadlinedPreparer::start(rt, alloc, by, NO_FILE, &watch).expect(rt, "threads");
-    let device = timed(rt, alloc, blocks, KeepOpener, NO_FILE, &watch);
+    let preparer = DeadlinedPreparer::start(rt, alloc, by, NODE, &watch).expect(rt, "threads");
+    let device = timed(rt, alloc, blocks, KeepOpener, NODE, &watch);
     let mut device = device.expect(rt, "a thread");
     play(rt, alloc, &mut device, &preparer, &seen, script);
 }

@@ -111,7 +111,9 @@ impl BackingFile for FakeFile {
     fn write_at(&mut self, part: &[u8], offset: u64, writes: u64) -> Result<(), u32> {
         if let Some(calls) = &mut self.calls {
             let line = write!(calls, "\nwrite {} at {offset} behind {writes}", part.len());
-            line.ok().ok_or(0u32)?;
+            if line.is_err() {
+                return Err(0);
+            }
         }
         if self.write_fails == Some(writes) {
             return Err(FAILED);
@@ -121,8 +123,9 @@ impl BackingFile for FakeFile {
 
     fn flush(&mut self, writes: u64) -> Result<(), u32> {
         if let Some(calls) = &mut self.calls {
-            let line = write!(calls, "\nflush behind {writes}");
-            line.ok().ok_or(0u32)?;
+            if write!(calls, "\nflush behind {writes}").is_err() {
+                return Err(0);
+            }
         }
         self.make_last(writes)
     }

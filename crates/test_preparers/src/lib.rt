@@ -2,7 +2,8 @@
 //! preparers that cannot prepare; and flushes of a device and beside it, where one fails or takes its time (`flushes`, `beside`). Beside
 //! them stands the order in which a registration file is written and flushed (`order`). The gate of the product asks something of the
 //! preparer of each disk (`prepared`), and reads blocks beside their unit (`reads_beside`). Of calls that have a deadline, which a thread
-//! makes, there are those on a disk that stands still (`deadlines`), and what is read ahead (`ahead`).
+//! makes, there are those on a disk that stands still (`deadlines`), and what is read ahead (`ahead`). What such a disk is asked is seen
+//! (`seen`).
 #![tactic(auto)]
 
 #[cfg(test)]
@@ -18,6 +19,8 @@ mod ends;
 #[cfg(test)]
 mod fake;
 #[cfg(test)]
+mod files;
+#[cfg(test)]
 mod flushes;
 #[cfg(test)]
 mod limits;
@@ -29,3 +32,5 @@ mod prepared;
 mod preparers;
 #[cfg(test)]
 mod reads_beside;
+#[cfg(test)]
+mod seen;

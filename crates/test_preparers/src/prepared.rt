@@ -1,82 +1,15 @@
 //! The gate of the product, before disks that count what they are asked.
-ghost use Rattle.std.specs.Prelude.{[], true};
+ghost use Rattle.std.specs.Prelude.{[]};
 ghost use Rattle.session_units.specs.Disks.{no_file};
 
 use crate::ends::must;
+use crate::seen::{SeeingPreparer, Seen, share};
 use block_file::ReplyMemory;
-use disk_preparer::{BlockMemory, Preparer};
 use scsi_types::{Asked, Command};
 use session_units::{Disks, Gate, Pass, Prepared};
 use std::alloc::Global;
 use std::process::Abort;
 use std::sync::Arc;
-use std::sync::atomic::{AtomicU64, Ordering};
-use std::test::*;
-
-/// What is counted of a disk: how often it was asked what it wants, blocks of it were fetched, and it was flushed. These are digits in
-/// hexadecimal of one number, three a disk.
-const WANTED: u64 = 0x1;
-
-const FETCHED: u64 = 0x10;
-
-const FLUSHED: u64 = 0x100;
-
-/// The preparer of a disk, which flushes or does not, and whose flushes end well or do not.
-#[derive(Drop)]
-struct Counted {
-    counts: Arc<AtomicU64, Global>,
-    // The number of the lowest of its digits.
-    digit: u64,
-    flushes: bool,
-    is_done: bool,
-}
-
-impl Counted {
-    fn count(&self, what: u64) {
-        let more = what.wrapping_mul(self.digit);
-        let _ = self.counts.fetch_add(more, Ordering::Relaxed);
-    }
-}
-
-impl Preparer for Counted {
-    ghost may_flush = { true };
-
-    ghost disk = { λ p. no_file };
-
-    ghost has_flushed = { λ disk. Unit {0} };
-
-    fn wants_hints(&self) -> bool {
-        false
-    }
-
-    fn advise(&self, _first: u64, _blocks: u16) {}
-
-    fn advise_edges(&self, _first: u64, _blocks: u16) {}
-
-    fn wants(&self, serial: u64) -> bool {
-        self.count(WANTED);
-        serial == 7
-    }
-
-    fn fetch(&self, _first: u64, _blocks: u16) {
-        self.count(FETCHED);
-    }
-
-    fn fetch_edges(&self, _first: u64, _blocks: u16) {}
-
-    fn read(&self, _first: u64, bytes: Vec<u8>, _is_looked_at: bool) -> Option<BlockMemory> {
-        Some(BlockMemory::fresh(bytes))
-    }
-
-    fn flushes(&self) -> bool {
-        self.flushes
-    }
-
-    fn flush(&self) -> bool {
-        self.count(FLUSHED);
-        self.is_done
-    }
-}
 
 /// Disks whose files have no name.
 #[derive(Drop)]
@@ -104,26 +37,32 @@ impl Pass for At {
     }
 }
 
-// The preparers of three disks: a flush of the first ends well, one of the second fails, and the third is not flushed.
-const DISKS: [(bool, bool); 3] = [(true, true), (true, false), (false, true)];
+// Of three disks: whether they flush, and whether a flush is done; and how often each is asked what it wants, fetches and is flushed.
+const DISKS: [(bool, bool, (u64, u64, u64)); 3] = [
+    (true, true, (1, 0, 1)),
+    (true, false, (1, 1, 1)),
+    (false, true, (1, 1, 1)),
+];
 
-// The gate before them.
+// The gate before them, and what is seen of each.
 fn gate(
+    rt: &impl Abort,
+    host: HostRuntime,
     alloc: Global,
-    counts: &Arc<AtomicU64, Global>,
-) -> Result<Prepared<Counted, Nameless>, Fail> {
-    let mut of = Vec::new(alloc);
-    let mut digit: u64 = 1;
-    for (flushes, is_done) in &DISKS {
-        of.push(Counted {
-            counts: Arc::try_clone(counts)?,
-            digit,
+) -> (Prepared<SeeingPreparer, Nameless>, Vec<Arc<Seen, Global>>) {
+    let (mut of, mut disks) = (Vec::new(alloc), Vec::new(alloc));
+    for (flushes, is_done, _) in &DISKS {
+        let seen = Seen::nothing(rt, alloc);
+        let by = SeeingPreparer {
+            rt: host,
+            seen: share(rt, &seen),
             flushes: *flushes,
             is_done: *is_done,
-        })?;
-        digit = digit.wrapping_mul(0x1000);
+        };
+        of.push(by).expect(rt, "memory");
+        disks.push(seen).expect(rt, "memory");
     }
-    Ok(Prepared::<Counted, Nameless>::new(of))
+    (Prepared::<SeeingPreparer, Nameless>::new(of), disks)
 }
 
 // A READ of the first block.
@@ -161,12 +100,13 @@ fn fetch<G: Gate>(alloc: Global, gate: &G) {
 }
 
 #[test]
-fn each_unit_has_its_own_disk_made_ready_and_flushed(rt: HostRuntime) -> Result<(), Fail> {
-    let counts = Arc::new(rt.alloc(), AtomicU64::new(0))?;
-    let gate = gate(rt.alloc(), &counts)?;
+fn each_unit_has_its_own_disk_made_ready_and_flushed(rt: HostRuntime) {
+    let alloc = rt.alloc();
+    let (gate, disks) = gate(&rt, rt, alloc);
     settle(&rt, &gate);
-    fetch(rt.alloc(), &gate);
-    let counted = counts.load(Ordering::Relaxed);
-    must(&rt, counted == 0x111_111_101, "counted", &counted);
-    Ok(())
+    fetch(alloc, &gate);
+    for (seen, (_, _, expected)) in disks.iter().zip(&DISKS) {
+        let counted = seen.prepared();
+        must(&rt, counted == *expected, "counted", &counted);
+    }
 }

@@ -1,5 +1,6 @@
 //! Preparers that cannot prepare: the device does the same.
 use crate::ends::must;
+use crate::files::{disk_in, make};
 use block_file::Blocks;
 use disk_files::{FileBlocks, SystemFile, open_disk};
 use disk_preparer::Preparer;
@@ -10,7 +11,7 @@ use std::process;
 use std::process::Abort;
 use std::rt::{Clock, Files};
 use std::sync::Wait;
-use test_disks::{clean, folder, path_of, reads, sized, writes};
+use test_disks::{clean, folder, path_of, reads, writes};
 
 // Runs that lie in the disk of four blocks, reach behind it, or lie behind all that a file can have.
 const RUNS: [(u64, u16); 5] = [(0, 4), (1, 1), (3, 2048), (8, 1), (u64::MAX, 65535)];
@@ -28,19 +29,13 @@ fn a_preparer_costs_time_alone(rt: HostRuntime) {
     clean(&rt, folder.as_str()).expect(&rt, "a folder");
 }
 
-// Makes a file of so many zeros.
-fn make<R: Files<File = File> + Abort>(rt: &R, path: &str, bytes: u64) {
-    must(rt, sized(File::create(rt, path), bytes), "a file", &path);
-}
-
 fn under_a_name<R: Clock + Wait + Files<File = File> + Abort + Copy + Drop>(
     rt: &R,
     alloc: Global,
     folder: &str,
     name: &str,
 ) {
-    let disk = path_of(alloc, folder, "disk").expect(rt, "memory");
-    make(rt, disk.as_str(), 2048);
+    let disk = disk_in(rt, alloc, folder);
     let mut blocks = device(rt, alloc, disk.as_str());
     let opened = path_of(alloc, folder, name).expect(rt, "memory");
     let preparer = FilePreparer::open(*rt, alloc, opened.as_str(), &mut blocks, None);

@@ -3,6 +3,7 @@
 ghost use Rattle.session_units.specs.Disks.{no_file};
 
 use crate::ends::must;
+use crate::files::{disk_in, memory};
 use crate::prepared::Nameless;
 use block_file::{Blocks, ReplyMemory};
 use disk_files::FileBlocks;
@@ -17,7 +18,7 @@ use std::process::Abort;
 use std::sync::Wait;
 use std::test::*;
 use std::time::Clock;
-use test_disks::{clean, folder, given, path_of, sized, writes};
+use test_disks::{clean, folder, given, writes};
 
 /// A preparer that reads as another one does, and does nothing else.
 #[derive(Drop)]
@@ -120,7 +121,7 @@ fn passings() -> [Passing; 5] {
 
 // Memory for one block.
 fn room(alloc: Global) -> Option<ReplyMemory> {
-    let bytes = vec![in alloc; 0xDD; 512].ok()?;
+    let bytes = memory(alloc)?;
     Some(ReplyMemory::with(alloc, BlockMemory::fresh(bytes)))
 }
 
@@ -169,9 +170,8 @@ fn pass_all<R: Clock + Wait + Files<File = File> + Abort + Copy + Drop>(
 fn a_read_beside_its_unit_is_taken_unless_a_write_has_ended_since(rt: HostRuntime) {
     let alloc = rt.alloc();
     let folder = folder(&rt, process::id(rt.process()), "beside").expect(&rt, "a folder");
-    let path = path_of(alloc, folder.as_str(), "disk").expect(&rt, "memory");
+    let path = disk_in(&rt, alloc, folder.as_str());
     let path = path.as_str();
-    must(&rt, sized(File::create(&rt, path), 2048), "a file", &path);
     pass_all(&rt, alloc, path);
     clean(&rt, folder.as_str()).expect(&rt, "a folder");
 }
