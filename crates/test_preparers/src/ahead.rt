@@ -11,6 +11,8 @@ use disk_files::FileBlocks;
 use disk_preparer::{BlockMemory, Preparer};
 use file_preparer::FilePreparer;
 use std::alloc::Global;
+use std::fs::{File, Files};
+use std::process::Abort;
 use std::time::{Clock, Duration};
 use std::{process, thread};
 use test_disks::{clean, folder, given, timed, watch, writes};
@@ -59,6 +61,21 @@ fn taken<B: Blocks, P: Preparer>(
     given(device, 2, found)
 }
 
+// What is read ahead of the disk in this file is taken, unless a write of the device has come back since.
+fn each_is_given<R: Files<File = File> + Abort, B: Blocks, P: Preparer>(
+    rt: &R,
+    alloc: Global,
+    path: &str,
+    device: &mut B,
+    preparer: &P,
+) {
+    let mut other = FileBlocks::open(rt, path).expect(rt, path);
+    for (is_written, expected) in &[(false, BEFORE), (true, SINCE)] {
+        let given = taken(alloc, device, preparer, &mut other, *is_written);
+        must(rt, given == Some(*expected), "block 2", &given);
+    }
+}
+
 // The types of a preparer that threads take along are known here alone.
 #[test]
 fn what_is_read_ahead_is_taken_unless_a_write_has_come_back_since(rt: HostRuntime) {
@@ -67,17 +84,13 @@ fn what_is_read_ahead_is_taken_unless_a_write_has_come_back_since(rt: HostRuntim
     let path = disk_in(&rt, alloc, folder.as_str());
     let path = path.as_str();
     let mut blocks = FileBlocks::open(&rt, path).expect(&rt, path);
-    let mut other = FileBlocks::open(&rt, path).expect(&rt, path);
     let by = FilePreparer::open(rt, alloc, path, &mut blocks, None);
     let disk = blocks.node();
     let watch = watch(alloc, PATIENCE, disk).expect(&rt, "memory");
     let preparer = DeadlinedPreparer::start(&rt, alloc, by, disk, &watch).expect(&rt, "threads");
     let device = timed(&rt, alloc, blocks, KeepOpener, disk, &watch);
     let mut device = device.expect(&rt, "a thread");
-    for (is_written, expected) in &[(false, BEFORE), (true, SINCE)] {
-        let given = taken(alloc, &mut device, &preparer, &mut other, *is_written);
-        must(&rt, given == Some(*expected), "block 2", &given);
-    }
+    each_is_given(&rt, alloc, path, &mut device, &preparer);
     clean(&rt, folder.as_str()).expect(&rt, "a folder");
 }
 

@@ -187,15 +187,13 @@ fn play<B: Blocks, P: Preparer>(
     }
 }
 
-// Plays a script over a disk of its own.
-fn play_over_a_disk<R: Threads + Wait + Clock + Abort + Clone + Drop + Send + Sync + 'static>(
-    rt: &R,
+// The device of such a disk and its preparer, and what is seen of both.
+fn disk(
+    rt: &impl Abort,
     host: HostRuntime,
     alloc: Global,
-    script: &str,
-) {
+) -> (Seeing<MemBlocks>, SeeingPreparer, Arc<Seen, Global>) {
     let seen = Seen::nothing(rt, alloc);
-    let watch = watch(alloc, PATIENCE, NODE).expect(rt, "memory");
     let blocks = Seeing {
         inner: MemBlocks::new(alloc, 16).expect(rt, "memory"),
         rt: host,
@@ -207,6 +205,18 @@ fn play_over_a_disk<R: Threads + Wait + Clock + Abort + Clone + Drop + Send + Sy
         flushes: true,
         is_done: true,
     };
+    (blocks, by, seen)
+}
+
+// Plays a script over a disk of its own.
+fn play_over_a_disk<R: Threads + Wait + Clock + Abort + Clone + Drop + Send + Sync + 'static>(
+    rt: &R,
+    host: HostRuntime,
+    alloc: Global,
+    script: &str,
+) {
+    let (blocks, by, seen) = disk(rt, host, alloc);
+    let watch = watch(alloc, PATIENCE, NODE).expect(rt, "memory");
     let preparer = DeadlinedPreparer::start(rt, alloc, by, NODE, &watch).expect(rt, "threads");
     let device = timed(rt, alloc, blocks, KeepOpener, NODE, &watch);
     let mut device = device.expect(rt, "a thread");
