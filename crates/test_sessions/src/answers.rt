@@ -1,6 +1,12 @@
 //! What a target answers, on the wire (RFC 7143, 11.4).
-pub fn rows() -> &'static str {
-    r"
+use crate::tables::Table;
+use crate::tables::Table::Rows;
+
+/// The tables.
+pub fn tables() -> &'static [Table] {
+    &[Rows(
+        "answers of a target",
+        r"
 # READ (10) of block 5, of which 512 bytes are expected. The status BUSY (SAM-5, 5.3.1); none of them came.
 busy
 answer busy
@@ -21,5 +27,6 @@ answer check 052400
 > TEST_UNIT_READY 10:01
 < CHECK_CONDITION 0012700005000000000A00000000240000000000
 asked - Ok(TestUnitReady)
-"
+",
+    )]
 }

@@ -1,6 +1,12 @@
 //! The command window (RFC 7143, 4.2.2.1).
-pub fn rows() -> &'static str {
-    r"
+use crate::tables::Table;
+use crate::tables::Table::Rows;
+
+/// The tables.
+pub fn tables() -> &'static [Table] {
+    &[Rows(
+        "the window",
+        r"
 TEST UNIT READY
 > TEST_UNIT_READY
 < GOOD
@@ -51,5 +57,6 @@ an immediate command takes no number
 < GOOD 24:000000020000000200000021
 asked 0 Ok(TestUnitReady)
 asked 0 Ok(TestUnitReady)
-"
+",
+    )]
 }

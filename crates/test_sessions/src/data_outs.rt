@@ -1,6 +1,12 @@
 //! Data-Out and the task that they are for (RFC 7143, 11.7): what is dropped, and what a task takes.
-pub fn rows() -> &'static str {
-    r"
+use crate::tables::Table;
+use crate::tables::Table::Rows;
+
+/// The tables.
+pub fn tables() -> &'static [Table] {
+    &[Rows(
+        "data out and its task",
+        r"
 a Data-Out for a tag that no task has is dropped
 > DATA_OUT pattern 512
 > TEST_UNIT_READY
@@ -83,5 +89,6 @@ the input ends before all data came
 > WRITE
 > DATA_OUT 6:0100 pattern 256
 < R2T
-"
+",
+    )]
 }

@@ -1,9 +1,14 @@
 //! Discovery sessions from their login on (RFC 7143, 4.3, 11.10 and appendix C).
-use crate::run::Form;
+use crate::tables::Table;
+use crate::tables::Table::{Alike, Rows};
 
-// Each session answers what it is asked.
-pub fn served() -> &'static str {
-    r#"
+/// The tables.
+pub fn tables() -> &'static [Table] {
+    &[
+        // Each session answers what it is asked.
+        Rows(
+            "discovery",
+            r#"
 SendTargets=All, NOP-Out, and Logout
 login 1
 each-place
@@ -57,12 +62,12 @@ login 1
 < LOGGED_IN 7:1F 24:00000002 "MaxRecvDataSegmentLength=65536\0"
 < TEXT_RESPONSE 6:01E0 24:00000003 5*THE_TARGET
 asked begin iqn.2000-01.test:a 400001370000 Discovery
-"#
-}
-
-// In each session one request is rejected with its header segment, which ends the session: what comes behind it is not served.
-pub fn rejected() -> &'static str {
-    r#"
+"#,
+        ),
+        // In each session one request is rejected with its header segment, which ends the session: what comes behind it is not served.
+        Rows(
+            "rejected in discovery",
+            r#"
 576 bytes of an answer, where the initiator takes 512
 login 1
 > LOGIN 1:81 7:37 "InitiatorName=iqn.2000-01.test:a\0SessionType=Discovery\0"
@@ -85,12 +90,12 @@ login 1
 < REJECT 2:04 24:000000030000000200000021 rejected WRITE 24:00000002
 asked begin iqn.2000-01.test:a 400001370000 Discovery
 end Rejected 04 01 00000001
-"#
-}
-
-/// The same of what comes first behind the login. Of each its header segment, its opcode, its data segment, and what comes behind.
-pub fn rejected_first() -> Form {
-    let form = r#"
+"#,
+        ),
+        // The same of what comes first behind the login. Of each its header segment, its opcode, its data segment, and what comes behind.
+        Alike(
+            "rejected first in discovery",
+            r#"
 [0]
 login 1
 > LOGIN 7:37 "InitiatorName=iqn.2000-01.test:a\0SessionType=Discovery\0"
@@ -100,11 +105,12 @@ login 1
 < REJECT 2:04 24:00000002 rejected [1]
 asked begin iqn.2000-01.test:a 400001370000 Discovery
 end Rejected 04 [2] 00000001
-"#;
-    let rows = r#"
+"#,
+            r#"
 a SCSI Command; TEST_UNIT_READY; 01;; > TEXT_REQUEST 7:10 "SendTargets=All\0"
 a LOGICAL UNIT RESET; TASK_REQUEST 1:85; 02;; > TEXT_REQUEST 7:10 "SendTargets=All\0"
 another Login Request; LOGIN 7:37; 03; "InitiatorName=iqn.2000-01.test:a\0SessionType=Discovery\0"
-"#;
-    (form, rows)
+"#,
+        ),
+    ]
 }

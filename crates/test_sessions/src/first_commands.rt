@@ -1,6 +1,12 @@
 //! The first commands behind a login: their numbers (RFC 7143, 4.2.2 and 11.12.8), and what is none.
-pub fn rows() -> &'static str {
-    r#"
+use crate::tables::Table;
+use crate::tables::Table::Rows;
+
+/// The tables.
+pub fn tables() -> &'static [Table] {
+    &[Rows(
+        "the first commands",
+        r#"
 the first has the CmdSN of the login, and StatSN goes on
 login 1
 > LOGIN 7:56 HOST_A
@@ -87,5 +93,6 @@ login 1
 asked begin iqn.2000-01.test:a 400001370000 Normal
 asked 0 Ok(TestUnitReady)
 end Rejected 04 03 00000001
-"#
+"#,
+    )]
 }

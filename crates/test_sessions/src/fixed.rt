@@ -1,16 +1,16 @@
 //! The target that the tables' sessions are served by.
 use crate::ends::fail;
-use crate::row::{named_texts, read};
+use crate::row::{Row, named_texts, read, read_hexadecimal};
 use login::SessionType;
 use scsi_types::{Asked, Reply, Sense};
 use session::{BeginAnswer, ResetAnswer, Target, TargetAnswer};
 use std::alloc::{AllocError, Global};
 use std::process::Abort;
-use test_connections::{RowError, bytes_of};
+use test_connections::bytes_of;
 
 /// What a target answers to each command.
 #[derive(Clone, Copy)]
-pub enum Answer<'a> {
+enum Answer<'a> {
     /// GOOD with these bytes, spelled as in a row.
     Good(&'a str),
     /// GOOD with these bytes, of each command in its turn with `|` between, and BUSY behind the last.
@@ -21,77 +21,52 @@ pub enum Answer<'a> {
     Gone,
 }
 
-/// What a target answers to a command, to a reset, where a session is to begin, and whether one lives.
-#[derive(Clone, Copy)]
-pub struct Answers<'a> {
-    pub command: Answer<'a>,
-    pub reset: ResetAnswer,
-    pub begin: BeginAnswer,
-    pub lives: bool,
-}
-
-impl<'a> Answers<'a> {
-    /// Where no line says anything: GOOD without data, a reset that is done, a session that begins with TSIH 1, and none that lives.
-    pub fn first() -> Answers<'a> {
-        Answers {
-            command: Answer::Good(""),
-            reset: ResetAnswer::Done,
-            begin: BeginAnswer::Begun(1),
-            lives: false,
-        }
-    }
-
-    /// Takes a line that says what a target answers.
-    pub fn take(&mut self, rt: &impl Abort, alloc: Global, word: &str, rest: &'a str) {
-        match word {
-            "answer" => self.command = command_answer(rt, alloc, rest),
-            "reset" => self.reset = reset_answer(rt, rest),
-            "begin" => self.begin = begin_answer(rt, rest),
-            _ if rest.is_empty() => self.lives = true,
-            _ => fail(rt, word, &rest),
-        }
-    }
-}
-
-fn command_answer<'t>(rt: &impl Abort, alloc: Global, text: &'t str) -> Answer<'t> {
+fn command_answer<'t>(rt: &impl Abort, text: &'t str) -> Answer<'t> {
     let (word, rest) = text.split_once(' ').unwrap_or((text, ""));
     match word {
         "good" => Answer::Good(rest),
         "in-turn" => Answer::InTurn(rest),
-        "check" => check_answer(rt, &bytes_of(alloc, named_texts(), rest).expect(rt, text)),
-        "busy" if rest.is_empty() => Answer::Busy,
-        "gone" if rest.is_empty() => Answer::Gone,
+        "check" => {
+            let [_, key, code, qualifier] = read_hexadecimal(rt, rest).to_be_bytes();
+            Answer::Check(key, code, qualifier)
+        }
+        "busy" => Answer::Busy,
+        "gone" => Answer::Gone,
         _ => fail(rt, "no answer", &text),
     }
 }
 
-fn check_answer(rt: &impl Abort, sense: &[u8]) -> Answer<'static> {
-    match sense {
-        [key, code, qualifier] => Answer::Check(*key, *code, *qualifier),
-        _ => fail(rt, "no sense", &sense),
-    }
+/// What a target answers to a command, to a reset, where a session is to begin, and whether one lives.
+#[derive(Clone, Copy)]
+pub struct Answers<'a> {
+    command: Answer<'a>,
+    reset: ResetAnswer,
+    // The TSIH of a session that begins; none where it is refused.
+    begin: Option<u16>,
+    lives: bool,
 }
 
-fn reset_answer(rt: &impl Abort, text: &str) -> ResetAnswer {
-    match text {
-        "failed" => ResetAnswer::Failed,
-        "gone" => ResetAnswer::Gone,
-        _ => fail(rt, "no answer", &text),
-    }
-}
-
-fn begin_answer(rt: &impl Abort, text: &str) -> BeginAnswer {
-    if text == "refused" {
-        BeginAnswer::Refused
-    } else {
-        BeginAnswer::Begun(read(rt, text))
+/// What it answers in the session of a row.
+pub fn answers_of<'a>(rt: &impl Abort, row: &'a Row<'_>) -> Answers<'a> {
+    Answers {
+        command: command_answer(rt, row.said("answer", "good")),
+        reset: match row.said("reset", "done") {
+            "failed" => ResetAnswer::Failed,
+            "gone" => ResetAnswer::Gone,
+            _ => ResetAnswer::Done,
+        },
+        begin: match row.said("begin", "1") {
+            "refused" => None,
+            tsih => Some(read(rt, tsih)),
+        },
+        lives: row.has("lives"),
     }
 }
 
 /// What a target was asked, each as a line, and what bytes it was given.
 #[derive(Drop)]
 pub struct Heard {
-    pub asked: Vec<String>,
+    pub asked: String,
     pub given: Vec<u8>,
     /// How many of the questions were commands.
     pub commands: usize,
@@ -115,7 +90,7 @@ impl<'a> Fixed<'a> {
             alloc,
             answers,
             heard: Heard {
-                asked: Vec::new(alloc),
+                asked: String::new(alloc),
                 given: Vec::new(alloc),
                 commands: 0,
             },
@@ -138,20 +113,33 @@ impl<'a> Fixed<'a> {
     fn hear(&mut self, line: Result<String, AllocError>) -> bool {
         self.late = self.late || self.ends > 0;
         match line {
-            Ok(line) => self.heard.asked.push(line).is_ok(),
+            Ok(line) => self.heard.asked.push_str(&line).is_ok(),
             Err(_) => false,
         }
     }
 
-    // The data of the last command that it was asked.
-    fn data(&self) -> Option<Result<Vec<u8>, RowError>> {
+    // The data of the next command that it is asked.
+    fn data(&self) -> Option<Vec<u8>> {
+        let data = match self.answers.command {
+            Answer::Good(data) => data,
+            Answer::InTurn(datas) => datas.split('|').nth(self.heard.commands)?,
+            Answer::Check(_, _, _) | Answer::Busy | Answer::Gone => return None,
+        };
+        bytes_of(self.alloc, named_texts(), data).ok()
+    }
+
+    // What it answers to a command.
+    fn answer(&self) -> TargetAnswer {
         match self.answers.command {
-            Answer::Good(data) => Some(bytes_of(self.alloc, named_texts(), data)),
-            Answer::InTurn(datas) => {
-                let data = datas.split('|').nth(self.heard.commands.checked_sub(1)?)?;
-                Some(bytes_of(self.alloc, named_texts(), data))
+            Answer::Check(key, code, qualifier) => {
+                let sense = Sense::new(key, code, qualifier);
+                TargetAnswer::Outside(Reply::check(self.alloc, sense))
             }
-            Answer::Check(_, _, _) | Answer::Busy | Answer::Gone => None,
+            Answer::Gone => TargetAnswer::Gone,
+            Answer::Good(_) | Answer::InTurn(_) | Answer::Busy => match self.data() {
+                Some(bytes) => TargetAnswer::Replied(Reply::good(bytes)),
+                None => TargetAnswer::Busy,
+            },
         }
     }
 }
@@ -172,17 +160,17 @@ impl Target for Fixed<'_> {
 
     fn begin(&mut self, name: &[u8], isid: u64, kind: SessionType) -> BeginAnswer {
         let name = shown(name);
-        let kept = self.hear(format!(in self.alloc; "begin {name} {isid:012X} {kind:?}"));
+        let kept = self.hear(format!(in self.alloc; "begin {name} {isid:012X} {kind:?}\n"));
         match self.answers.begin {
             // No session has the TSIH 0.
-            BeginAnswer::Begun(tsih) if kept && tsih != 0 => BeginAnswer::Begun(tsih),
+            Some(tsih) if kept && tsih != 0 => BeginAnswer::Begun(tsih),
             _ => BeginAnswer::Refused,
         }
     }
 
     fn lives(&mut self, tsih: u16, name: &[u8], isid: u64) -> bool {
         let name = shown(name);
-        let kept = self.hear(format!(in self.alloc; "lives {tsih} {name} {isid:012X}"));
+        let kept = self.hear(format!(in self.alloc; "lives {tsih} {name} {isid:012X}\n"));
         kept && self.answers.lives
     }
 
@@ -191,7 +179,7 @@ impl Target for Fixed<'_> {
     }
 
     fn reset(&mut self, unit: u8) -> ResetAnswer {
-        if self.hear(format!(in self.alloc; "reset {unit}")) {
+        if self.hear(format!(in self.alloc; "reset {unit}\n")) {
             self.answers.reset
         } else {
             ResetAnswer::Failed
@@ -199,24 +187,16 @@ impl Target for Fixed<'_> {
     }
 
     fn serve(&mut self, unit: Option<u8>, asked: Asked, bytes: &[u8]) -> TargetAnswer {
-        let line = match unit {
-            Some(unit) => format!(in self.alloc; "{unit} {asked:?}"),
-            None => format!(in self.alloc; "- {asked:?}"),
+        let kept = match unit {
+            Some(unit) => self.hear(format!(in self.alloc; "{unit} {asked:?}\n")),
+            None => self.hear(format!(in self.alloc; "- {asked:?}\n")),
         };
-        if !self.hear(line) || self.heard.given.extend_from_slice(bytes).is_err() {
-            return TargetAnswer::Busy;
-        }
-        self.heard.commands = self.heard.commands.saturating_add(1);
-        match self.answers.command {
-            Answer::Check(key, code, qualifier) => {
-                let sense = Sense::new(key, code, qualifier);
-                TargetAnswer::Outside(Reply::check(self.alloc, sense))
-            }
-            Answer::Gone => TargetAnswer::Gone,
-            Answer::Good(_) | Answer::InTurn(_) | Answer::Busy => match self.data() {
-                Some(Ok(bytes)) => TargetAnswer::Replied(Reply::good(bytes)),
-                Some(Err(_)) | None => TargetAnswer::Busy,
-            },
+        if kept && self.heard.given.extend_from_slice(bytes).is_ok() {
+            let answer = self.answer();
+            self.heard.commands = self.heard.commands.saturating_add(1);
+            answer
+        } else {
+            TargetAnswer::Busy
         }
     }
 }

@@ -1,9 +1,16 @@
 //! What the tools of libiscsi send from their login to their logout, and the answers by the rules. The bytes of the login, of a
 //! discovery and of the commands are those that the tools of Debian 12 (libiscsi-bin 1.19.0) sent to an array, where `srand` of
 //! the C library did nothing: ISID, tag and CmdSN are random, and these are the first three numbers of its `rand`.
-// INQUIRY is answered by standard data of a disk (SPC-4, 6.6.2), READ CAPACITY (16) by 2048 blocks of 512 bytes (SBC-3).
-pub fn rows() -> &'static str {
-    r#"
+use crate::tables::Table;
+use crate::tables::Table::Rows;
+
+/// The tables.
+pub fn tables() -> &'static [Table] {
+    &[
+        // INQUIRY is answered by standard data of a disk (SPC-4, 6.6.2), READ CAPACITY (16) by 2048 blocks of 512 bytes (SBC-3).
+        Rows(
+            "what libiscsi sends",
+            r#"
 libiscsi: the session of iscsi-inq, which asks for the capacity too
 login 1
 answer in-turn | 000006121F301002 "TWINCTL ALUA DISK       0001" |
@@ -41,5 +48,7 @@ login 1
 < LOGGED_OUT 16:327B23C8 24:00000003643C9869643C9888
 asked begin iqn.2007-10.com.github:sahlberg:libiscsi:iscsi-ls 808B45670000 Discovery
 end LoggedOut
-"#
+"#,
+        ),
+    ]
 }

@@ -1,10 +1,10 @@
 //! What is rejected in a login (RFC 7143, 7.3 and 11.17.1): 05 for an opcode that no PDU of an initiator has, 09 for
 //! another fault.
-use crate::run::Form;
+use crate::tables::Table;
+use crate::tables::Table::{Alike, Rows};
 
 // Of each fault the PDU, the reason, and its opcode.
-fn faults() -> &'static str {
-    r"
+const FAULTS: &str = r"
 an opcode that no PDU has; LOGIN 0:07; 05; 07
 another, of those of a target; LOGIN 0:3E; 05; 3E
 a PDU of a target; GOOD; 05; 21
@@ -15,25 +15,28 @@ a data segment of 65537 bytes; LOGIN 5:010001; 09; 03
 an additional header segment and 65537 bytes, of a NOP-Out; NOP_OUT 4:01010001; 09; 00
 a SCSI Command without F; TEST_UNIT_READY 1:01; 09; 01
 a SCSI Command with R and W; TEST_UNIT_READY 1:E1; 09; 01
-"
-}
+";
 
-/// In place of the first Login Request: ExpCmdSN is 0.
-pub fn first() -> Form {
-    let form = r"
+/// The tables.
+pub fn tables() -> &'static [Table] {
+    &[
+        // In place of the first Login Request: ExpCmdSN is 0.
+        Alike(
+            "a fault first",
+            r"
 [0]
 login 1
 > [1]
 > LOGIN 7:56 HOST_A
 < REJECT 2:[2] 24:00000001000000000000001F rejected [1]
 end Rejected [2] [3] 00000001
-";
-    (form, faults())
-}
-
-/// Behind a Login Request: ExpCmdSN is its CmdSN.
-pub fn second() -> Form {
-    let form = r#"
+",
+            FAULTS,
+        ),
+        // Behind a Login Request: ExpCmdSN is its CmdSN.
+        Alike(
+            "a fault behind a request",
+            r#"
 [0]
 login 1
 > LOGIN 1:81 7:43 NAMES
@@ -42,13 +45,13 @@ login 1
 < LOGGED_IN 1:81 7:17 14:0000 "TargetPortalGroupTag=1\0"
 < REJECT 2:[2] 24:00000002 rejected [1]
 end Rejected [2] [3] 00000001
-"#;
-    (form, faults())
-}
-
-/// The same with another CmdSN.
-pub fn numbers() -> &'static str {
-    r#"
+"#,
+            FAULTS,
+        ),
+        // The same with another CmdSN.
+        Rows(
+            "numbers of a fault",
+            r#"
 its numbers are those of the Login Request
 login 1
 > LOGIN 1:81 7:43 24:FFFFFFFE NAMES
@@ -57,5 +60,7 @@ login 1
 < LOGGED_IN 1:81 7:17 14:0000 24:00000001FFFFFFFE0000001D "TargetPortalGroupTag=1\0"
 < REJECT 2:05 24:00000002FFFFFFFE0000001D rejected LOGIN 0:07
 end Rejected 05 07 00000001
-"#
+"#,
+        ),
+    ]
 }

@@ -1,9 +1,14 @@
 //! Logins that are refused at a later request (RFC 7143, 6.2, 6.3 and 11.13.5).
-use crate::run::Form;
+use crate::tables::Table;
+use crate::tables::Table::{Alike, Rows};
 
-/// The flags of the first of two requests, what the second one has, and the refusal with its status: for flags, and for texts.
-pub fn refused() -> Form {
-    let form = r#"
+/// The tables.
+pub fn tables() -> &'static [Table] {
+    &[
+        // The flags of the first of two requests, what the second one has, and the refusal with its status: for flags, and for texts.
+        Alike(
+            "flags and texts of later requests",
+            r#"
 [0]
 login 1
 > LOGIN [1] 7:43 NAMES
@@ -12,8 +17,8 @@ login 1
 < LOGGED_IN [1] 7:17 14:0000 "TargetPortalGroupTag=1\0"
 < LOGIN_REFUSED [3]
 end LoginRefused [4]
-"#;
-    let rows = r#"
+"#,
+            r#"
 stage 1, where stage 0 stays; 1:00;; 24:00000002; 0200
 stage 0, where stage 1 is next; 1:81; 1:81; 1:00 24:00000002; 0200
 stage 3, where stage 1 is next; 1:81; 1:8F; 1:0C 24:00000002; 0200
@@ -23,12 +28,11 @@ a pair without =; 1:81; 7:04 "X-a\0"; 24:00000002; 0200
 a last pair without its zero byte; 1:81; 7:10 "ImmediateData=No"; 24:00000002; 0200
 a key twice; 1:81; 7:22 "ImmediateData=No\0ImmediateData=No\0"; 24:00000002; 0200
 AuthMethod without None; 1:00; 1:81 7:10 "AuthMethod=CHAP\0"; 1:00 24:00000002 37:01; 0201
-"#;
-    (form, rows)
-}
-
-pub fn keys() -> &'static str {
-    r#"
+"#,
+        ),
+        Rows(
+            "keys and limits of a negotiation",
+            r#"
 a key of an earlier request
 login 1
 > LOGIN 1:00 7:54 NAMES "ImmediateData=No\0"
@@ -86,11 +90,11 @@ login 1
 < LOGGED_IN 1:04 14:0000
 < LOGIN_REFUSED 24:00000002 37:03
 end LoginRefused 0203
-"#
-}
-
-pub fn runs() -> &'static str {
-    r#"
+"#,
+        ),
+        Rows(
+            "runs that are refused",
+            r#"
 a run with C of another stage
 login 1
 > LOGIN 1:44 7:34 "InitiatorName=iqn.2000-01.test:a\0TargetName=iqn.2000"
@@ -120,5 +124,7 @@ begin refused
 < LOGIN_REFUSED 24:00000002 36:0302
 asked begin iqn.2000-01.test:a 400001370000 Normal
 end LoginRefused 0302
-"#
+"#,
+        ),
+    ]
 }

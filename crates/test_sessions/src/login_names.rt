@@ -1,6 +1,13 @@
 //! Logins that are refused for their names, session types, TSIH and AuthMethod (RFC 7143, 6.3 and 11.13.5).
-pub fn missing() -> &'static str {
-    r#"
+use crate::tables::Table;
+use crate::tables::Table::Rows;
+
+/// The tables.
+pub fn tables() -> &'static [Table] {
+    &[
+        Rows(
+            "names that are missing",
+            r#"
 no text
 login 1
 > LOGIN
@@ -63,11 +70,11 @@ login 1
 > LOGIN 7:56 HOST_A
 < LOGIN_REFUSED 37:07
 end LoginRefused 0207
-"#
-}
-
-pub fn targets() -> &'static str {
-    r#"
+"#,
+        ),
+        Rows(
+            "targets that are not there",
+            r#"
 an unknown target
 login 1
 > LOGIN 7:52 "InitiatorName=iqn.2000-01.test:a\0TargetName=iqn.2000-01.test:b\0SessionType=Normal\0"
@@ -110,11 +117,11 @@ lives
 > LOGIN 7:56 HOST_A
 < LOGIN_REFUSED 14:0007 37:03
 end LoginRefused 0203
-"#
-}
-
-pub fn sessions() -> &'static str {
-    r#"
+"#,
+        ),
+        Rows(
+            "sessions that are named",
+            r#"
 one connection more in a session that lives
 login 1
 lives
@@ -148,11 +155,11 @@ lives
 < LOGIN_REFUSED 14:1234 37:06
 asked lives 4660 iqn.2000-01.test:a 400001370000
 end LoginRefused 0206
-"#
-}
-
-pub fn methods() -> &'static str {
-    r#"
+"#,
+        ),
+        Rows(
+            "what comes last",
+            r#"
 AuthMethod without None
 login 1
 > LOGIN 1:81 7:6A HOST_A "AuthMethod=CHAP,SRP\0"
@@ -191,5 +198,7 @@ begin refused
 < LOGIN_REFUSED 36:0302
 asked begin iqn.2000-01.test:a 400001370000 Discovery
 end LoginRefused 0302
-"#
+"#,
+        ),
+    ]
 }

@@ -1,7 +1,14 @@
 //! Logins that are refused for their flags and versions (RFC 7143, 6.3.1, 11.12 and 11.13.5): 0200 and 0205.
-// A refusal has neither T, C, NSG nor text. The target is asked nothing, and nothing behind it is looked at.
-pub fn rows() -> &'static str {
-    r#"
+use crate::tables::Table;
+use crate::tables::Table::Rows;
+
+/// The tables.
+pub fn tables() -> &'static [Table] {
+    &[
+        // A refusal has neither T, C, NSG nor text. The target is asked nothing, and nothing behind it is looked at.
+        Rows(
+            "flags and versions",
+            r#"
 T with C
 login 1
 > LOGIN 1:C7 7:56 HOST_A
@@ -106,5 +113,7 @@ login 1
 > LOGIN 7:56 HOST_A
 < LOGIN_REFUSED 1:00 8:80123456789A1234 16:0A0B0C0D 24:000000010102030401020323 37:07
 end LoginRefused 0207
-"#
+"#,
+        ),
+    ]
 }

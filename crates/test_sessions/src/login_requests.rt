@@ -1,9 +1,14 @@
 //! Logins of several requests that are accepted (RFC 7143, 6.2, 6.3 and 11.12).
-use crate::run::Form;
+use crate::tables::Table;
+use crate::tables::Table::{Alike, Rows};
 
-/// A second request, of which each row says what of it does not count: it is answered as if that were not there.
-pub fn second() -> Form {
-    let form = r#"
+/// The tables.
+pub fn tables() -> &'static [Table] {
+    &[
+        // A second request, of which each row says what of it does not count: it is answered as if that were not there.
+        Alike(
+            "what does not count of a second request",
+            r#"
 [0]
 login 1
 > LOGIN 1:81 7:43 NAMES
@@ -11,19 +16,18 @@ login 1
 < LOGGED_IN 1:81 7:17 14:0000 "TargetPortalGroupTag=1\0"
 < LOGGED_IN 7:1F 24:00000002 "MaxRecvDataSegmentLength=65536\0"
 asked begin iqn.2000-01.test:a 400001370000 Normal
-"#;
-    let rows = r#"
+"#,
+            r#"
 other names in the second request: those of the first stand;
   7:55 "InitiatorName=iqn.2000-01.test:b\0TargetName=iqn.2000-01.test:b\0SessionType=Discovery\0"
 a name twice in the second request: it is passed over; 7:27 "SessionType=Discovery\0SessionType=None\0"
 Version-min and TSIH of a later request are not looked at; 3:01 14:0007
-"#;
-    (form, rows)
-}
-
-/// Login responses have TSIH 0 until the last.
-pub fn rows() -> &'static str {
-    r#"
+"#,
+        ),
+        // Login responses have TSIH 0 until the last.
+        Rows(
+            "several requests",
+            r#"
 stage 0, then stage 1, with the names again
 login 1
 each-place
@@ -83,5 +87,7 @@ login 1
 < GOOD 24:000000030000000800000027
 asked begin iqn.2000-01.test:a 400001370000 Normal
 asked 0 Ok(TestUnitReady)
-"#
+"#,
+        ),
+    ]
 }

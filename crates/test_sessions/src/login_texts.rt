@@ -1,7 +1,14 @@
 //! Logins that are refused for the form and the length of their texts (RFC 7143, 6.1 and 6.2).
-// Each is refused with 0200.
-pub fn rows() -> &'static str {
-    r#"
+use crate::tables::Table;
+use crate::tables::Table::Rows;
+
+/// The tables.
+pub fn tables() -> &'static [Table] {
+    &[
+        // Each is refused with 0200.
+        Rows(
+            "texts",
+            r#"
 a pair without =
 login 1
 > LOGIN 7:47 NAMES "X-a\0"
@@ -109,5 +116,7 @@ login 1
 > LOGIN 7:56 HOST_A
 < LOGIN_REFUSED
 end LoginRefused 0200
-"#
+"#,
+        ),
+    ]
 }

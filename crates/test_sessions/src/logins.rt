@@ -1,8 +1,15 @@
 //! Logins of one request that are accepted (RFC 7143, 6.3, 11.12 and 11.13).
-// 86 bytes are the text of a login of one request, 67 of them the names of both sides; 54 bytes are what the target says
-// by itself. The target is asked once to begin the session.
-pub fn one_request() -> &'static str {
-    r#"
+use crate::tables::Table;
+use crate::tables::Table::Rows;
+
+/// The tables.
+pub fn tables() -> &'static [Table] {
+    &[
+        // 86 bytes are the text of a login of one request, 67 of them the names of both sides; 54 bytes are what the target says
+        // by itself. The target is asked once to begin the session.
+        Rows(
+            "one request",
+            r#"
 one request of stage 1
 login 1
 each-place
@@ -71,12 +78,12 @@ login 1
 > LOGIN 6:2000 NAMES "X-a=" 8120*61 1*00
 < LOGGED_IN 7:48 WELCOME "X-a=NotUnderstood\0"
 asked begin iqn.2000-01.test:a 400001370000 Normal
-"#
-}
-
-// In a text of its own, whose lines can be broken.
-pub fn longest_name() -> &'static str {
-    "
+"#,
+        ),
+        // In a text of its own, whose lines can be broken.
+        Rows(
+            "the longest name",
+            "
 a name of 223 bytes
 login 1
 > LOGIN 6:0110 \"TargetName=iqn.2000-01.test:array\\0InitiatorName=\" 223*61 1*00
@@ -84,5 +91,7 @@ login 1
 asked begin \
      aaaaaaaaaaaaaaaaaaaaaaaaaaaaaaaaaaaaaaaaaaaaaaaaaaaaaaaaaaaaaaaaaaaaaaaaaaaaaaaaaaaaaaaaaaaaaaaaaaaaaaaaaaaaaaaa\
      aaaaaaaaaaaaaaaaaaaaaaaaaaaaaaaaaaaaaaaaaaaaaaaaaaaaaaaaaaaaaaaaaaaaaaaaaaaaaaaaaaaaaaaaaaaaaaaaaaaaaaaaaaaaaaa 400001370000 Normal
-"
+",
+        ),
+    ]
 }

@@ -1,6 +1,12 @@
 //! Logout (RFC 7143, 11.14 and 11.15).
-pub fn rows() -> &'static str {
-    r"
+use crate::tables::Table;
+use crate::tables::Table::Rows;
+
+/// The tables.
+pub fn tables() -> &'static [Table] {
+    &[Rows(
+        "logout",
+        r"
 reason 0 closes the session, and nothing behind it is served
 > LOGOUT
 > TEST_UNIT_READY 24:00000002
@@ -36,5 +42,6 @@ outside the window it is ignored
 > TEST_UNIT_READY
 < GOOD
 asked 0 Ok(TestUnitReady)
-"
+",
+    )]
 }

@@ -1,7 +1,13 @@
 //! WRITE (10) of 2048 blocks: 8192 bytes come with it, the others by four R2Ts of at most MaxBurstLength, 262144
 //! (RFC 7143, 11.8 and 13.13), in Data-Out of at most 65536.
-pub fn megabyte() -> &'static str {
-    r"
+use crate::tables::Table;
+use crate::tables::Table::Rows;
+
+/// The tables.
+pub fn tables() -> &'static [Table] {
+    &[Rows(
+        "a write of a megabyte",
+        r"
 1 MiB, of which 8192 bytes come with the command
 pieces 7
 > WRITE 6:2000 20:00100000 37:00000800 pattern 8192
@@ -28,5 +34,6 @@ pieces 7
 < GOOD
 asked 0 Ok(Write { lba: 0, blocks: 2048, fua: false })
 given pattern 1048576
-"
+",
+    )]
 }

@@ -1,10 +1,15 @@
 //! What goes out by the lengths that a login negotiated (RFC 7143, 13.12 and 13.13).
-use crate::run::Form;
+use crate::tables::Table;
+use crate::tables::Table::{Alike, Rows};
 
-/// A read of three blocks in Data-In of 512 bytes, in runs of 1024. Of each login by which it goes so what it is answered, the StatSN
-/// behind it, and its second request and response.
-pub fn in_runs() -> Form {
-    let form = r"
+/// The tables.
+pub fn tables() -> &'static [Table] {
+    &[
+        // A read of three blocks in Data-In of 512 bytes, in runs of 1024. Of each login by which it goes so what it is answered, the
+        // StatSN behind it, and its second request and response.
+        Alike(
+            "reads by negotiated lengths",
+            r"
 [0]
 login 1
 answer good pattern 1536
@@ -19,8 +24,8 @@ answer good pattern 1536
 < GOOD 24:[3] 36:00000003
 asked begin iqn.2000-01.test:a 400001370000 Normal
 asked 0 Ok(Read { lba: 5, blocks: 3, fua: false })
-";
-    let rows = r#"
+",
+            r#"
 a read in Data-In of MaxRecvDataSegmentLength, in runs of MaxBurstLength;
   7:74 NAMES "MaxRecvDataSegmentLength=512\0MaxBurstLength=1024\0"; 7:4A WELCOME "MaxBurstLength=1024\0"; 00000002
 the same, declared in stage 0 on the way to full feature phase;
@@ -30,13 +35,12 @@ the lengths of stage 0 and of stage 1, behind the names again; 1:81 7:7A HOST_A 
   1:81 7:3B 14:0000 "TargetPortalGroupTag=1\0MaxBurstLength=1024\0AuthMethod=None\0"; 00000003;
   > LOGIN 7:81 HOST_A "MaxRecvDataSegmentLength=512\0InitialR2T=No\0";
   < LOGGED_IN 7:2E 24:00000002 "MaxRecvDataSegmentLength=65536\0InitialR2T=Yes\0"
-"#;
-    (form, rows)
-}
-
-/// The same read in one Data-In, where no length is in force: each login by which it goes so, and what it is answered.
-pub fn at_once() -> Form {
-    let form = r"
+"#,
+        ),
+        // The same read in one Data-In, where no length is in force: each login by which it goes so, and what it is answered.
+        Alike(
+            "reads by the usual lengths",
+            r"
 [0]
 login 1
 answer good pattern 1536
@@ -47,19 +51,18 @@ answer good pattern 1536
 < GOOD 24:00000002 36:00000001
 asked begin iqn.2000-01.test:a 400001370000 Normal
 asked 0 Ok(Read { lba: 5, blocks: 3, fua: false })
-";
-    let rows = r#"
+",
+            r#"
 a read in one Data-In, where no length was negotiated; 7:56 HOST_A; 7:36 WELCOME
 lengths out of their ranges are rejected, and those where nothing is negotiated are in force;
   7:8C NAMES "MaxRecvDataSegmentLength=511\0MaxBurstLength=16777216\0FirstBurstLength=-1\0";
   7:84 WELCOME "MaxRecvDataSegmentLength=Reject\0MaxBurstLength=Reject\0FirstBurstLength=Reject\0"
-"#;
-    (form, rows)
-}
-
-/// The longest Data-In, and a NOP-In.
-pub fn rows() -> &'static str {
-    r#"
+"#,
+        ),
+        // The longest Data-In, and a NOP-In.
+        Rows(
+            "the longest Data-In and a NOP-In",
+            r#"
 a Data-In of the target has at most 65536 bytes
 login 1
 answer good pattern 66048
@@ -79,5 +82,7 @@ login 1
 < LOGGED_IN 7:36 WELCOME
 < NOP_IN 6:0200 24:00000002 pattern 512
 asked begin iqn.2000-01.test:a 400001370000 Normal
-"#
+"#,
+        ),
+    ]
 }

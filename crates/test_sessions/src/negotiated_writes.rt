@@ -1,6 +1,12 @@
 //! What comes in by the lengths that a login negotiated (RFC 7143, 13.10, 13.11, 13.13 and 13.14).
-pub fn rows() -> &'static str {
-    r#"
+use crate::tables::Table;
+use crate::tables::Table::Rows;
+
+/// The tables.
+pub fn tables() -> &'static [Table] {
+    &[Rows(
+        "writes by negotiated lengths",
+        r#"
 a write in R2Ts of MaxBurstLength
 login 1
 > LOGIN 7:57 NAMES "MaxBurstLength=1024\0"
@@ -58,5 +64,6 @@ login 1
 < REJECT 2:04 24:00000002 rejected WRITE 6:0204 20:00000600 32:2A0000000005000003
 asked begin iqn.2000-01.test:a 400001370000 Normal
 end Rejected 04 01 00000001
-"#
+"#,
+    )]
 }

@@ -1,6 +1,12 @@
 //! NOP-Out and NOP-In (RFC 7143, 11.18 and 11.19).
-pub fn rows() -> &'static str {
-    r"
+use crate::tables::Table;
+use crate::tables::Table::Rows;
+
+/// The tables.
+pub fn tables() -> &'static [Table] {
+    &[Rows(
+        "nop out",
+        r"
 its data comes back, with its LUN and its tag
 > NOP_OUT 7:05 8:4007 16:01020304 20:09090909 pattern 5
 < NOP_IN 7:05 8:4007 16:01020304 pattern 5
@@ -45,5 +51,6 @@ inside the window, but not the next, it leaves a gap
 > NOP_OUT 24:00000002
 > TEST_UNIT_READY
 end Gap
-"
+",
+    )]
 }

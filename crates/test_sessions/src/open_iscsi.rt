@@ -1,9 +1,16 @@
 //! What the initiator open-iscsi sends, by what is known of it, and the answers by the rules. The keys and their order are
 //! those of its `usr/login.c`, the values those that its `iscsid.conf` documents as defaults, and the discovery is that of
 //! `iscsiadm -m discovery -t st`. The ISID and CmdSN 1 are such as it chooses; the tags stand for any.
-// INQUIRY is answered by standard data of a disk (SPC-4, 6.6.2), READ CAPACITY (10) by 2048 blocks of 512 bytes (SBC-3).
-pub fn rows() -> &'static str {
-    r#"
+use crate::tables::Table;
+use crate::tables::Table::Rows;
+
+/// The tables.
+pub fn tables() -> &'static [Table] {
+    &[
+        // INQUIRY is answered by standard data of a disk (SPC-4, 6.6.2), READ CAPACITY (10) by 2048 blocks of 512 bytes (SBC-3).
+        Rows(
+            "what open iscsi sends",
+            r#"
 open-iscsi: a session, its first commands, and its logout
 login 1
 answer in-turn 000006121F301002 "TWINCTL ALUA DISK       0001" | | 000007FF00000200
@@ -50,5 +57,7 @@ login 1
 < LOGGED_OUT 16:00000002 24:000000040000000200000021
 asked begin iqn.1993-08.org.debian:01:5d4a7c91e2f0 00023D000000 Discovery
 end LoggedOut
-"#
+"#,
+        ),
+    ]
 }

@@ -1,11 +1,16 @@
 //! Writes whose data comes by R2T (RFC 7143, 11.7 and 11.8): what did not come with the command is asked for in
 //! ranges of MaxBurstLength, one outstanding at a time, and the command is called once, with all of it.
-use crate::run::Form;
+use crate::tables::Table;
+use crate::tables::Table::{Alike, Rows};
 
-/// A write of 512 bytes, of which none come with it. Of each the answer, its LUN, in the header segments and as a number, and what the
-/// session begins with or the target answers. The R2T has the LUN of its command.
-pub fn one_block() -> Form {
-    let form = r"
+/// The tables.
+pub fn tables() -> &'static [Table] {
+    &[
+        // A write of 512 bytes, of which none come with it. Of each the answer, its LUN, in the header segments and as a number, and
+        // what the session begins with or the target answers. The R2T has the LUN of its command.
+        Alike(
+            "a write of a block by r2t",
+            r"
 [0]
 [4]
 > WRITE [2]
@@ -14,19 +19,18 @@ pub fn one_block() -> Form {
 < [1]
 asked [3] Ok(Write { lba: 5, blocks: 1, fua: false })
 given pattern 512
-";
-    let rows = r"
+",
+            r"
 a write of 512 without its data; GOOD;; 0
 ImmediateData is No, and none comes; GOOD;; 0; ImmediateData No
 a write to LUN 3; GOOD; 9:03; 3
 the answer is sense; CHECK_CONDITION 0012700003000000000A000000000C0000000000;; 0; answer check 030C00
-";
-    (form, rows)
-}
-
-/// Writes of which some data come with the command, or whose ranges are several.
-pub fn rows() -> &'static str {
-    r"
+",
+        ),
+        // Writes of which some data come with the command, or whose ranges are several.
+        Rows(
+            "writes that collect",
+            r"
 # The R2T tells the StatSN of the next status, and does not use it up.
 512 bytes come with the command, 1024 in two Data-Out
 > WRITE 6:0200 20:00000600 40:03 pattern 512
@@ -78,12 +82,12 @@ FirstBurstLength 512
 < GOOD
 asked 0 Ok(Write { lba: 5, blocks: 2, fua: false })
 given pattern 1024
-"
-}
-
-// What is expected and what the command needs differ (RFC 7143, 11.4.5): as much is collected as both have.
-pub fn residuals() -> &'static str {
-    r"
+",
+        ),
+        // What is expected and what the command needs differ (RFC 7143, 11.4.5): as much is collected as both have.
+        Rows(
+            "residuals with r2t",
+            r"
 a write of 512 that expects 1024: U, and the R2T is for 512
 > WRITE 20:00000400
 > DATA_OUT pattern 512
@@ -116,5 +120,7 @@ a write of 512 that expects 256 and sends none: O, and no R2T
 > WRITE 20:00000100
 < GOOD 1:84 44:00000100
 asked 0 Ok(Write { lba: 5, blocks: 1, fua: false })
-"
+",
+        ),
+    ]
 }

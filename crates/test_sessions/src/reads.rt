@@ -1,7 +1,13 @@
 //! A read of 128 KiB in Data-In of 8192 bytes (RFC 7143, 11.7): DataSN counts from 0, the offset is where each lies, and
 //! F stands on the last, since all are one run. ExpDataSN is how many there are (11.4.8).
-pub fn rows() -> &'static str {
-    r"
+use crate::tables::Table;
+use crate::tables::Table::Rows;
+
+/// The tables.
+pub fn tables() -> &'static [Table] {
+    &[Rows(
+        "reads",
+        r"
 # READ (6), whose transfer length 0 is 256 blocks (SBC-3, 5.10): one run, which ends with the data.
 256 blocks, in segments of 8192 bytes
 answer good 8192*01 8192*02 8192*03 8192*04 8192*05 8192*06 8192*07 8192*08 8192*09 8192*0A 8192*0B 8192*0C 8192*0D
@@ -25,5 +31,6 @@ answer good 8192*01 8192*02 8192*03 8192*04 8192*05 8192*06 8192*07 8192*08 8192
 < DATA_IN 1:80 5:002000 36:0000000F0001E000 8192*10
 < GOOD 36:00000010
 asked 0 Ok(Read { lba: 0, blocks: 256, fua: false })
-"
+",
+    )]
 }

@@ -1,7 +1,14 @@
 //! What is rejected (RFC 7143, 11.17.1): 04 is a protocol error, 05 a command not supported, 09 an invalid PDU field.
-// Each is rejected with its header segment, and ends the session: the target is asked nothing, also of what is behind.
-pub fn rows() -> &'static str {
-    r"
+use crate::tables::Table;
+use crate::tables::Table::Rows;
+
+/// The tables.
+pub fn tables() -> &'static [Table] {
+    &[
+        // Each is rejected with its header segment, and ends the session: the target is asked nothing, also of what is behind.
+        Rows(
+            "rejects",
+            r"
 an opcode that no PDU has
 > COMMAND 0:07
 > TEST_UNIT_READY
@@ -86,5 +93,7 @@ ImmediateData No
 > TEST_UNIT_READY
 < REJECT 2:04 rejected COMMAND 1:A1 6:0400 20:00000400 32:2A0000000005000002
 end Rejected 04 01 00000001
-"
+",
+        ),
+    ]
 }

@@ -12,10 +12,10 @@
 //! given pattern 1536
 //! ```
 //!
-//! A table is one text, with an empty line between two rows, or a form and a line for each row (`Form` in `run.rt`). Of its
+//! A table is one text, with an empty line between two rows, or a form and a line for each row (`Table` in `tables.rt`). Of its
 //! lines, one that begins with `#` is a comment, and one that begins with a blank goes on with the line before. The first
-//! line of a row is its name. Each other line is one of these, and one that is none, that its table has no use for, or that
-//! cannot be read, fails the test with the row's name.
+//! line of a row is its name. Each other line is one of these, and one that is none, that its table has no use for (`Words`),
+//! or that cannot be read, fails the test with the row's name.
 //! Those of `>`, `<`, `asked` and `written` stand as often as there is something to say, the others once at most.
 //!
 //! - `> PDU`: what comes, and `< PDU`: what goes out, in their order; a row has one of them at least. `test_connections` says
@@ -45,12 +45,11 @@
 //!   ends at each place.
 //! - Of any other session: `each-place`: what comes is also cut in two at each place, as that of a row of few bytes
 //!   always is. `pieces 7`: it also comes in pieces of so many bytes.
-use crate::ends::{fail, must};
-use crate::fixed::Answers;
+use crate::ends::must;
 use crate::run::Wanted;
 use login::SessionType;
 use session::{Lengths, Opening, Start};
-use std::alloc::Global;
+use std::alloc::{AllocError, Global};
 use std::process::Abort;
 use std::str::FromStr;
 use std::test::*;
@@ -85,28 +84,10 @@ pub fn named_texts() -> Texts<'static> {
     ]
 }
 
-/// With what a session begins, as plain numbers.
-#[derive(Clone, Copy)]
-struct Begin {
-    exp_cmd_sn: u32,
-    stat_sn: u32,
-    data_segment: u32,
-    burst: u32,
-    first_burst: u32,
-    immediate_data: bool,
-}
+/// What lines the rows of a table may have: the words that something stands behind, and whole lines.
+pub type Words = (&'static [&'static str], &'static [&'static str]);
 
-// CmdSN 1, StatSN 1 and the lengths where none are negotiated (RFC 7143, section 13).
-const FROM_ONE: Begin = Begin {
-    exp_cmd_sn: 1,
-    stat_sn: 1,
-    data_segment: 8192,
-    burst: 262144,
-    first_burst: 65536,
-    immediate_data: true,
-};
-
-/// How many bytes have come and are written, how many questions are asked, and how many blocks are written.
+/// How many bytes have come and are written, how much is asked, and how many blocks are written.
 #[derive(Clone, Copy)]
 pub struct Mark {
     pub came: usize,
@@ -115,102 +96,109 @@ pub struct Mark {
     pub blocks: usize,
 }
 
-/// How a device fails: after so many calls, where the first one that fails, as a write, lands so many blocks of its run.
-#[derive(Clone, Copy)]
-pub struct Fuse {
-    pub calls: u64,
-    pub lands: u32,
-}
-
 /// A session as a row of a table.
 #[derive(Drop)]
 pub struct Row<'a> {
     pub table: &'a str,
     pub name: &'a str,
-    /// The group of the portal by which it logs in; none where it begins in full feature phase, of this kind and with
-    /// this start.
-    login: Option<u16>,
-    kind: SessionType,
-    begin: Begin,
-    /// How many portals the second controller has.
-    pub portals: usize,
-    pub answers: Answers<'a>,
     /// What comes, and what goes out.
     pub input: Vec<u8>,
     pub output: Vec<u8>,
-    /// What the target is asked and given, and how the session ends.
-    pub asked: Vec<&'a str>,
+    /// What the target is asked, a line each, and given.
+    pub asked: String,
     pub given: Vec<u8>,
-    pub end: &'a str,
-    /// Whether what comes is cut in two at each place.
-    pub each_place: bool,
-    /// In pieces of how many bytes it comes too; none where it is 0.
-    pub pieces: usize,
-    /// How the device fails, the blocks that are of a byte afterwards, and whether it needs all blocks.
-    pub fuse: Fuse,
+    /// The blocks that are of a byte afterwards.
     pub written: Vec<(u32, u8)>,
-    pub all_blocks: bool,
-    /// Whether what comes ends at each place.
-    pub ends: bool,
     /// What has come, is written and is asked behind each line, in the order of the lines.
     pub marks: Vec<Mark>,
-    // The words of its lines that a row has once.
-    words: Vec<&'a str>,
+    // The lines that it has once: a word, and what stands behind it.
+    once: Vec<(&'a str, &'a str)>,
 }
 
 impl<'a> Row<'a> {
-    /// The row of these lines of a table; without a name where they are comments.
-    pub fn read(rt: &impl Abort, alloc: Global, table: &'a str, text: &'a str) -> Row<'a> {
-        let mut row = Row::new(alloc, table);
-        for line in &lines_of(alloc, text).expect(rt, "memory") {
-            row.add(rt, alloc, *line);
-        }
-        let is_whole = !row.name.starts_with(['>', '<']);
-        let has_pdus = !row.input.is_empty() || !row.output.is_empty();
-        let is_row = row.name.is_empty() || is_whole && has_pdus;
-        // A row has a name, and what comes or goes out.
-        must(rt, is_row, table, &row.name);
+    /// The row of these lines of a table whose rows have these words.
+    pub fn read(
+        rt: &impl Abort,
+        alloc: Global,
+        words: Words,
+        table: &'a str,
+        text: &'a str,
+    ) -> Row<'a> {
+        let mut row = Row {
+            table,
+            name: "",
+            input: Vec::new(alloc),
+            output: Vec::new(alloc),
+            asked: String::new(alloc),
+            given: Vec::new(alloc),
+            written: Vec::new(alloc),
+            marks: Vec::new(alloc),
+            once: Vec::new(alloc),
+        };
+        row.add_all(rt, alloc, words, text);
         row
     }
 
-    // Adds a line.
-    fn add(&mut self, rt: &impl Abort, alloc: Global, line: &'a str) {
-        if self.name.is_empty() {
-            self.name = line;
-        } else {
-            let (word, rest) = line.split_once(' ').unwrap_or((line, ""));
-            self.take(rt, alloc, word, rest);
-            self.mark(rt);
+    // Adds these lines, of which the first one is its name.
+    fn add_all(&mut self, rt: &impl Abort, alloc: Global, words: Words, text: &'a str) {
+        for line in &lines_of(alloc, text).expect(rt, "memory") {
+            if self.name.is_empty() {
+                self.name = line;
+            } else {
+                self.add(rt, alloc, words, line);
+            }
         }
+        self.given = bytes_of(alloc, named_texts(), self.said("given", "")).expect(rt, self.name);
+        let has_pdus = !self.input.is_empty() || !self.output.is_empty();
+        let is_row = has_pdus && !self.name.starts_with(['>', '<']);
+        must(rt, is_row, self.table, &self.name);
     }
 
-    // The row of no lines.
-    fn new(alloc: Global, table: &'a str) -> Row<'a> {
-        Row {
-            table,
-            name: "",
-            login: None,
-            kind: SessionType::Normal,
-            begin: FROM_ONE,
-            portals: 1,
-            answers: Answers::first(),
-            input: Vec::new(alloc),
-            output: Vec::new(alloc),
-            asked: Vec::new(alloc),
-            given: Vec::new(alloc),
-            end: "EndOfInput",
-            each_place: false,
-            pieces: 0,
-            fuse: Fuse {
-                calls: u64::MAX,
-                lands: 0,
-            },
-            written: Vec::new(alloc),
-            all_blocks: false,
-            ends: false,
-            marks: Vec::new(alloc),
-            words: Vec::new(alloc),
+    // Adds a line behind its name.
+    fn add(&mut self, rt: &impl Abort, alloc: Global, (words, marks): Words, line: &'a str) {
+        let (word, rest) = line.split_once(' ').unwrap_or((line, ""));
+        let is_known = words.contains(&word) && !rest.is_empty() || marks.contains(&line);
+        must(rt, is_known, self.name, &line);
+        match word {
+            ">" => put_pdu(rt, alloc, &mut self.input, rest),
+            "<" => put_pdu(rt, alloc, &mut self.output, rest),
+            "asked" => put_line(&mut self.asked, rest).expect(rt, "memory"),
+            "written" => self.written.push(written_of(rt, rest)).expect(rt, "memory"),
+            _ => self.add_once(rt, word, rest),
         }
+        let mark = Mark {
+            came: self.input.len(),
+            written: self.output.len(),
+            asked: self.asked.len(),
+            blocks: self.written.len(),
+        };
+        self.marks.push(mark).expect(rt, "memory");
+    }
+
+    // Adds a line whose word a row has once.
+    fn add_once(&mut self, rt: &impl Abort, word: &'a str, rest: &'a str) {
+        must(rt, self.said(word, "no") == "no", self.name, &word);
+        self.once.push((word, rest)).expect(rt, "memory");
+    }
+
+    /// What stands behind this word, where a line begins with it; else this.
+    pub fn said<'s>(&'s self, word: &str, usual: &'s str) -> &'s str {
+        for (first, rest) in &self.once {
+            if *first == word {
+                return *rest;
+            }
+        }
+        usual
+    }
+
+    /// Whether a line is this word alone.
+    pub fn has(&self, word: &str) -> bool {
+        self.said(word, "no").is_empty()
+    }
+
+    /// How the session ends.
+    pub fn end(&self) -> &str {
+        self.said("end", "EndOfInput")
     }
 
     /// What so many bytes come to: the answers of whole PDUs, and what these ask and write.
@@ -229,17 +217,10 @@ impl<'a> Row<'a> {
         at
     }
 
-    /// None of its lines has one of these words, which its table has no use for.
-    pub fn has_none_of(&self, rt: &impl Abort, words: &[&str]) {
-        for word in words {
-            must(rt, !self.words.contains(word), self.name, word);
-        }
-    }
-
     /// All that it wants.
-    pub fn whole(&self) -> Wanted<'a> {
+    pub fn whole(&self) -> Wanted<'_> {
         Wanted {
-            end: self.end,
+            end: self.end(),
             written: self.output.len(),
             asked: self.asked.len(),
         }
@@ -247,85 +228,46 @@ impl<'a> Row<'a> {
 
     /// Whether it has no login, or one that is over when so many bytes came.
     pub fn is_open(&self, came: usize) -> bool {
-        self.login.is_none() || self.at(came).asked > 0
+        self.said("login", "") == "" || self.at(came).asked > 0
     }
 
     /// How its session begins.
     pub fn opening(&self, rt: &impl Abort) -> Opening {
-        match self.login {
-            Some(group) => Opening::Login(group),
-            None => Opening::FullFeature(self.kind, self.begin.start(rt)),
+        match self.said("login", "") {
+            "" if self.has("discovery") => {
+                Opening::FullFeature(SessionType::Discovery, self.start(rt))
+            }
+            "" => Opening::FullFeature(SessionType::Normal, self.start(rt)),
+            group => Opening::Login(read(rt, group)),
         }
     }
 
-    // Takes a line.
-    fn take(&mut self, rt: &impl Abort, alloc: Global, word: &'a str, rest: &'a str) {
-        match word {
-            ">" => put_pdu(rt, alloc, &mut self.input, rest),
-            "<" => put_pdu(rt, alloc, &mut self.output, rest),
-            "asked" => self.asked.push(rest).expect(rt, "memory"),
-            "written" => self.written.push(written_of(rt, rest)).expect(rt, "memory"),
-            _ => self.take_once(rt, alloc, word, rest),
-        }
-    }
-
-    // Takes down how far its lines have come.
-    fn mark(&mut self, rt: &impl Abort) {
-        let mark = Mark {
-            came: self.input.len(),
-            written: self.output.len(),
-            asked: self.asked.len(),
-            blocks: self.written.len(),
-        };
-        self.marks.push(mark).expect(rt, "memory");
-    }
-
-    // Takes a line whose word a row has once.
-    fn take_once(&mut self, rt: &impl Abort, alloc: Global, word: &'a str, rest: &'a str) {
-        must(rt, !self.words.contains(&word), self.name, &word);
-        self.words.push(word).expect(rt, "memory");
-        match word {
-            "answer" | "reset" | "begin" | "lives" => self.answers.take(rt, alloc, word, rest),
-            "given" => put_bytes(rt, alloc, &mut self.given, rest),
-            "end" => self.end = rest,
-            "fails" | "lands" => self.fuse.take(rt, word, rest),
-            _ if rest.is_empty() => self.take_mark(rt, word),
-            _ => self.take_opening(rt, word, rest),
-        }
-    }
-
-    // Takes a word that stands alone.
-    fn take_mark(&mut self, rt: &impl Abort, word: &str) {
-        match word {
-            "each-place" => self.each_place = true,
-            "all-blocks" => self.all_blocks = true,
-            "ends" => self.ends = true,
-            "discovery" => self.kind = SessionType::Discovery,
-            _ => fail(rt, self.name, &word),
-        }
-    }
-
-    // Takes a line that says how its session begins, or in which pieces its input comes.
-    fn take_opening(&mut self, rt: &impl Abort, word: &str, rest: &str) {
-        match word {
-            "login" => self.login = Some(read(rt, rest)),
-            "portals" => self.portals = read(rt, rest),
-            "pieces" => self.pieces = read(rt, rest),
-            _ => self.begin.take(rt, word, rest),
+    // With what it begins in full feature phase: CmdSN 1, StatSN 1 and the lengths where none are negotiated (RFC 7143, section 13),
+    // unless it says otherwise. The lengths are 512 at least.
+    fn start(&self, rt: &impl Abort) -> Start {
+        let data_segment = read(rt, self.said("MaxRecvDataSegmentLength", "8192"));
+        let burst = read(rt, self.said("MaxBurstLength", "262144"));
+        assert!(rt;
+            data_segment >= 512 && burst >= 512,
+            "a length is below 512"
+        );
+        Start {
+            exp_cmd_sn: read_hexadecimal(rt, self.said("ExpCmdSN", "1")),
+            stat_sn: read_hexadecimal(rt, self.said("StatSN", "1")),
+            lengths: Lengths {
+                data_segment,
+                burst,
+                first_burst: read(rt, self.said("FirstBurstLength", "65536")),
+                immediate_data: self.said("ImmediateData", "Yes") == "Yes",
+            },
         }
     }
 }
 
-impl Fuse {
-    // Takes a line that says how the device fails.
-    fn take(&mut self, rt: &impl Abort, word: &str, rest: &str) {
-        if word == "fails" {
-            self.calls = read(rt, rest);
-        } else {
-            self.calls = 0;
-            self.lands = read(rt, rest);
-        }
-    }
+// Appends a line.
+fn put_line(lines: &mut String, line: &str) -> Result<(), AllocError> {
+    lines.push_str(line)?;
+    lines.push('\n')
 }
 
 // A block, and the byte of which it is.
@@ -341,45 +283,6 @@ fn put_pdu(rt: &impl Abort, alloc: Global, bytes: &mut Vec<u8>, line: &str) {
     bytes.extend_from_slice(&pdu).expect(rt, "memory");
 }
 
-// Appends the bytes of these parts.
-fn put_bytes(rt: &impl Abort, alloc: Global, bytes: &mut Vec<u8>, parts: &str) {
-    let more = bytes_of(alloc, named_texts(), parts).expect(rt, parts);
-    bytes.extend_from_slice(&more).expect(rt, "memory");
-}
-
-impl Begin {
-    // Takes a number or a length.
-    fn take(&mut self, rt: &impl Abort, word: &str, rest: &str) {
-        match word {
-            "ExpCmdSN" => self.exp_cmd_sn = read_hexadecimal(rt, rest),
-            "StatSN" => self.stat_sn = read_hexadecimal(rt, rest),
-            "MaxRecvDataSegmentLength" => self.data_segment = read(rt, rest),
-            "MaxBurstLength" => self.burst = read(rt, rest),
-            "FirstBurstLength" => self.first_burst = read(rt, rest),
-            "ImmediateData" if rest == "No" => self.immediate_data = false,
-            _ => fail(rt, word, &rest),
-        }
-    }
-
-    // The same as a start, whose lengths are 512 at least.
-    fn start(&self, rt: &impl Abort) -> Start {
-        assert!(rt;
-            self.data_segment >= 512 && self.burst >= 512,
-            "a length is below 512"
-        );
-        Start {
-            exp_cmd_sn: self.exp_cmd_sn,
-            stat_sn: self.stat_sn,
-            lengths: Lengths {
-                data_segment: self.data_segment,
-                burst: self.burst,
-                first_burst: self.first_burst,
-                immediate_data: self.immediate_data,
-            },
-        }
-    }
-}
-
 /// The number of these decimal digits.
 pub fn read<T: FromStr>(rt: &impl Abort, text: &str) -> T
 where
@@ -388,7 +291,7 @@ where
     text.parse().ok().expect(rt, text)
 }
 
-// The number of these digits in hexadecimal.
-fn read_hexadecimal(rt: &impl Abort, text: &str) -> u32 {
+/// The number of these digits in hexadecimal.
+pub fn read_hexadecimal(rt: &impl Abort, text: &str) -> u32 {
     u32::from_str_radix(text, 16).expect(rt, text)
 }

@@ -1,6 +1,12 @@
 //! The data of a read in runs of MaxBurstLength (RFC 7143, 11.7.1 and 13.13): F stands at the end of each and of the data.
-pub fn rows() -> &'static str {
-    r"
+use crate::tables::Table;
+use crate::tables::Table::Rows;
+
+/// The tables.
+pub fn tables() -> &'static [Table] {
+    &[Rows(
+        "runs",
+        r"
 # Five blocks in runs of 1024 bytes: F at 1024, 2048 and 2560.
 runs of two segments, and a shorter one
 MaxRecvDataSegmentLength 512
@@ -69,5 +75,6 @@ answer good 512*01 512*02 512*03
 < DATA_IN 1:80 5:000115 36:0000000200000400 277*03
 < GOOD 1:84 36:00000003 44:000000EB
 asked 0 Ok(Read { lba: 5, blocks: 3, fua: false })
-"
+",
+    )]
 }

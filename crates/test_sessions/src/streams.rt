@@ -1,8 +1,7 @@
 //! Sessions over streams that end and are cut anywhere, that fail at each call in turn, that take nothing, over which nothing
 //! comes for a while, and whose calls are interrupted.
-use crate::ends::must;
 use crate::row::Row;
-use crate::run::{Wanted, calls_of, is_of_a_target, run_part, run_row};
+use crate::run::{Wanted, calls_of, of_a_target, run_part, run_row};
 use std::alloc::Global;
 use std::io::ErrorKind;
 use std::process::Abort;
@@ -139,10 +138,9 @@ fn calls_are_interrupted(rt: &impl Abort, alloc: Global, row: &Row<'_>) {
 }
 
 fn each_stream(rt: &impl Abort, alloc: Global, row: &Row<'_>) {
-    is_of_a_target(rt, row);
     run_row(rt, alloc, row);
     ends_anywhere(rt, alloc, row);
-    if row.end == "EndOfInput" {
+    if row.end() == "EndOfInput" {
         run_part(
             rt,
             alloc,
@@ -161,9 +159,9 @@ fn each_stream(rt: &impl Abort, alloc: Global, row: &Row<'_>) {
 
 #[test]
 fn streams(rt: HostRuntime) {
+    let alloc = rt.alloc();
     for text in rows().split("\n\n") {
-        let row = Row::read(&rt, rt.alloc(), "streams", text);
-        must(&rt, !row.name.is_empty(), "streams", &"a table has rows");
-        each_stream(&rt, rt.alloc(), &row);
+        let row = Row::read(&rt, alloc, of_a_target(), "streams", text);
+        each_stream(&rt, alloc, &row);
     }
 }

@@ -1,15 +1,20 @@
 //! Task management (RFC 7143, 11.5 and 11.6), on a target of one unit.
-use crate::run::Form;
+use crate::tables::Table;
+use crate::tables::Table::{Alike, Rows};
 
-/// Of each request what differs, its response, and what the target is asked.
-pub fn requests() -> Form {
-    let form = r"
+/// The tables.
+pub fn tables() -> &'static [Table] {
+    &[
+        // Of each request what differs, its response, and what the target is asked.
+        Alike(
+            "requests",
+            r"
 [0]
 > TASK_REQUEST [1]
 < TASK_RESPONSE 2:[2]
 [3]
-";
-    let rows = r"
+",
+            r"
 ABORT TASK of a tag that no task has had: there is none; 1:81 20:00000009; 01
 ABORT TASK SET; 1:82; 00
 function 3 is not supported; 1:83; 05
@@ -24,13 +29,12 @@ ABORT TASK SET on unit 1, which is not there; 1:82 9:01; 02
 LOGICAL UNIT RESET on unit 1, which is not there; 1:85 9:01; 02
 LOGICAL UNIT RESET on a LUN that names no unit; 1:85 10:01; 02
 TASK REASSIGN on unit 1, which is not there; 1:88 9:01; 04
-";
-    (form, rows)
-}
-
-/// What else comes with requests.
-pub fn rows() -> &'static str {
-    r"
+",
+        ),
+        // What else comes with requests.
+        Rows(
+            "task management",
+            r"
 ABORT TASK of a task that ended: there is none
 > TEST_UNIT_READY
 > TASK_REQUEST 1:81 19:02 23:01 27:02
@@ -68,14 +72,14 @@ asked 0 Ok(TestUnitReady)
 inside the window, but not the next, it leaves a gap
 > TASK_REQUEST 1:85 24:00000002
 end Gap
-"
-}
-
-/// A write that waits for its 512 bytes, by its R2T, and is dropped: it is not answered, and its Data-Out behind is passed over. The
-/// request has CmdSN 2 and the tag 2. The third command has the tag 9, and its answer StatSN 2, ExpCmdSN 4 and MaxCmdSN 35, as no
-/// write waits any more. Of each request what drops it, and what else the target is asked.
-pub fn dropped() -> Form {
-    let form = r"
+",
+        ),
+        // A write that waits for its 512 bytes, by its R2T, and is dropped: it is not answered, and its Data-Out behind is passed over. The
+        // request has CmdSN 2 and the tag 2. The third command has the tag 9, and its answer StatSN 2, ExpCmdSN 4 and MaxCmdSN 35, as no
+        // write waits any more. Of each request what drops it, and what else the target is asked.
+        Alike(
+            "a write that is dropped",
+            r"
 [0]
 > WRITE
 > TASK_REQUEST [1] 19:02 27:02
@@ -86,18 +90,17 @@ pub fn dropped() -> Form {
 < GOOD 19:09 24:000000020000000400000023
 [2]
 asked 0 Ok(TestUnitReady)
-";
-    let rows = r"
+",
+            r"
 ABORT TASK drops it: it is not answered, and its Data-Out behind is passed over; 1:81 23:01
 ABORT TASK SET by the other form of the LUN drops it; 1:82 8:40
 LOGICAL UNIT RESET drops it, and the unit is reset; 1:85; asked reset 0
-";
-    (form, rows)
-}
-
-/// The same write, which each request leaves, and the response.
-pub fn left() -> Form {
-    let form = r"
+",
+        ),
+        // The same write, which each request leaves, and the response.
+        Alike(
+            "a write that is left",
+            r"
 [0]
 > WRITE
 > TASK_REQUEST [1] 19:02 27:02
@@ -107,18 +110,17 @@ pub fn left() -> Form {
 < GOOD 24:000000020000000300000022
 asked 0 Ok(Write { lba: 5, blocks: 1, fua: false })
 given pattern 512
-";
-    let rows = r"
+",
+            r"
 ABORT TASK of another tag leaves it, and there is no such task; 1:81 23:07; 01
 ABORT TASK on unit 1, which is not there, leaves it; 1:81 9:01 23:01; 02
 TASK REASSIGN leaves it; 1:88 23:01; 04
-";
-    (form, rows)
-}
-
-/// A write and requests that are immediate, or come behind it.
-pub fn waiting() -> &'static str {
-    r"
+",
+        ),
+        // A write and requests that are immediate, or come behind it.
+        Rows(
+            "a write that waits",
+            r"
 an immediate ABORT TASK drops it
 > WRITE
 > TASK_REQUEST 0:4281 19:02 23:01 27:02
@@ -135,5 +137,7 @@ ABORT TASK of the write behind its last data: it ended, and there is no such tas
 < TASK_RESPONSE 2:01 19:02 24:000000020000000300000022
 asked 0 Ok(Write { lba: 5, blocks: 1, fua: false })
 given pattern 512
-"
+",
+        ),
+    ]
 }

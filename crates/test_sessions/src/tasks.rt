@@ -1,7 +1,14 @@
 //! Several writes that wait for their data at once, and other commands between: answers come in the order in which commands
 //! are completed (RFC 7143, 4.2.2 and 11.8).
-pub fn rows() -> &'static str {
-    r"
+use crate::tables::Table;
+use crate::tables::Table::Rows;
+
+/// The tables.
+pub fn tables() -> &'static [Table] {
+    &[
+        Rows(
+            "tasks at once",
+            r"
 # Of two writes of two blocks the second is complete first; a read is answered between.
 two writes, their Data-Out interleaved, and a read
 answer good pattern 512
@@ -71,12 +78,12 @@ an immediate command, while a numbered write waits
 < R2T
 < GOOD 19:02 35:20
 asked 0 Ok(TestUnitReady)
-"
-}
-
-// 32 numbered writes that wait, of which the window is full, and what comes behind them.
-pub fn behind_32() -> &'static str {
-    r"
+",
+        ),
+        // 32 numbered writes that wait, of which the window is full, and what comes behind them.
+        Rows(
+            "a full window of writes",
+            r"
 behind 32 numbered writes that wait
 # CmdSN and tag count from 1 on.
 > WRITE 19:01 27:01
@@ -168,5 +175,7 @@ asked 0 Ok(TestUnitReady)
 asked 0 Ok(Write { lba: 5, blocks: 1, fua: false })
 asked 0 Ok(TestUnitReady)
 given pattern 1024
-"
+",
+        ),
+    ]
 }

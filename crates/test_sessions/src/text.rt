@@ -1,6 +1,13 @@
 //! Text Requests and discovery sessions (RFC 7143, 11.10, 11.11 and 4.3).
-pub fn rows() -> &'static str {
-    r#"
+use crate::tables::Table;
+use crate::tables::Table::Rows;
+
+/// The tables.
+pub fn tables() -> &'static [Table] {
+    &[
+        Rows(
+            "text",
+            r#"
 SendTargets=All in a discovery session
 discovery
 > TEXT_REQUEST 6:0010 "SendTargets=All\0"
@@ -70,12 +77,12 @@ MaxRecvDataSegmentLength 8216
 portals 3
 > TEXT_REQUEST 6:02A4 52*"SendTargets=\0"
 < TEXT_RESPONSE 6:2018 52*TOLD_OF_FOUR
-"#
-}
-
-// Each is rejected with its header segment, and ends the session.
-pub fn refused() -> &'static str {
-    r#"
+"#,
+        ),
+        // Each is rejected with its header segment, and ends the session.
+        Rows(
+            "refused in text and discovery",
+            r#"
 without F
 > TEXT_REQUEST 1:00 6:0000
 > TEXT_REQUEST 24:00000002
@@ -149,5 +156,7 @@ portals 3
 > TEXT_REQUEST 6:02A4 52*"SendTargets=\0"
 < REJECT 2:04 rejected TEXT_REQUEST 6:02A4
 end Rejected 04 04 00000001
-"#
+"#,
+        ),
+    ]
 }

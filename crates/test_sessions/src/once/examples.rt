@@ -1,6 +1,12 @@
 //! The worked examples of a session.
-pub fn rows() -> &'static str {
-    r#"
+use crate::tables::Table;
+use crate::tables::Table::OneUnit;
+
+/// The tables.
+pub fn tables() -> &'static [Table] {
+    &[OneUnit(
+        "worked examples of a session",
+        r#"
 # TEST UNIT READY; WRITE (10) of block 5 with 512 bytes 5Ah; READ (10) of it.
 three commands
 ends
@@ -27,5 +33,6 @@ written 7 5A
 less announced than needed
 > COMMAND 1:A1 5:000100 20:00000100 32:2A0000000007000001 256*5A
 < CHECK_CONDITION 1:84 44:00000100 0012700005000000000A00000000240000000000
-"#
+"#,
+    )]
 }

@@ -1,6 +1,12 @@
 //! What an initiator asks first, from bytes to bytes.
-pub fn rows() -> &'static str {
-    r#"
+use crate::tables::Table;
+use crate::tables::Table::OneUnit;
+
+/// The tables.
+pub fn tables() -> &'static [Table] {
+    &[OneUnit(
+        "what an initiator asks first",
+        r#"
 # The answer's 36 bytes are fewer than the 255 that were expected.
 INQUIRY
 > COMMAND 1:C1 20:000000FF 32:12000000FF
@@ -22,5 +28,6 @@ MODE SENSE (6) of all pages
 > COMMAND 1:C1 20:00000024 32:1A003F0024
 < DATA_IN 5:000024 2300100008120400000000000000000000000000000000000A0A00100000000000000000
 < GOOD 36:00000001
-"#
+"#,
+    )]
 }

@@ -1,6 +1,12 @@
 //! LUNs: those that name unit 0, and those that name none. There is no other unit.
-pub fn rows() -> &'static str {
-    r#"
+use crate::tables::Table;
+use crate::tables::Table::OneUnit;
+
+/// The tables.
+pub fn tables() -> &'static [Table] {
+    &[OneUnit(
+        "LUNs",
+        r#"
 INQUIRY of a unit that is not there
 > COMMAND 1:C1 8:0002 20:00000001 32:1200000001
 < DATA_IN 5:000001 7F
@@ -36,5 +42,6 @@ TEST UNIT READY of a LUN whose last byte is not 0
 WRITE (10) of block 5 of unit 5
 > COMMAND 1:A1 5:000200 8:0005 20:00000200 32:2A0000000005000001 512*5A
 < CHECK_CONDITION 0012700005000000000A00000000250000000000
-"#
+"#,
+    )]
 }

@@ -1,6 +1,12 @@
 //! The medium commands, from bytes to bytes and blocks.
-pub fn rows() -> &'static str {
-    r#"
+use crate::tables::Table;
+use crate::tables::Table::OneUnit;
+
+/// The tables.
+pub fn tables() -> &'static [Table] {
+    &[OneUnit(
+        "medium commands",
+        r#"
 # WRITE (10) of four blocks at LBA 10 with 2048 bytes: one run, behind two blocks of which the device fails.
 WRITE (10) that fails behind two blocks
 lands 2
@@ -91,5 +97,6 @@ all-blocks
 > COMMAND 1:C1 20:0000000A 32:9E1000000000000000000000000A
 < DATA_IN 5:00000A 00000000000007FF0000
 < GOOD 36:00000001
-"#
+"#,
+    )]
 }

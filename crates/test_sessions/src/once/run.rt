@@ -1,8 +1,7 @@
-//! The runner of the tables of one session over one unit, and their test.
+//! The runner of the tables of one session over one unit.
 use crate::ends::must;
-use crate::once::{examples, first_questions, luns, medium};
-use crate::row::Row;
-use crate::run::{Table, portal};
+use crate::row::{Row, Words, read};
+use crate::run::portal;
 use block_file::{Blocks, DeviceFailed, FusedBlocks, MemBlocks};
 use once_target::once::once;
 use session::{End, TargetRecord, Watched};
@@ -41,12 +40,14 @@ fn byte_of(written: &[(u32, u8)], index: u32) -> u8 {
 
 // Whether the device has so many blocks, these of them of this byte, and all others of zeros.
 fn keeps<B: Blocks>(device: &mut B, count: u32, written: &[(u32, u8)]) -> bool {
-    if written.iter().any(|(block, _)| *block >= count) {
-        return false;
-    }
     for index in 0..count {
         let byte = byte_of(written, index);
         if block_at(device, index) != Some([byte; 512]) {
+            return false;
+        }
+    }
+    for (block, _) in written {
+        if *block >= count {
             return false;
         }
     }
@@ -57,8 +58,8 @@ fn keeps<B: Blocks>(device: &mut B, count: u32, written: &[(u32, u8)]) -> bool {
 fn serve(rt: &impl Abort, alloc: Global, row: &Row<'_>, came: usize, reads: Calls, blocks: u32) {
     let mut sink = Watched::new(FakeWriter::new(alloc, WHOLE));
     let front = row.input.get(..came).expect(rt, row.name);
-    let source = FakeReader::new(front, reads);
-    let (end, mut device) = serve_to(rt, alloc, source, &mut sink, row, blocks);
+    let mut source = Watched::new(FakeReader::new(front, reads));
+    let (end, mut device) = serve_to(rt, alloc, &mut source, &mut sink, row, blocks);
     let written = row.written.get(..row.at(came).blocks);
     let kept = keeps(&mut device, blocks, written.expect(rt, row.name));
     let sent = sink.into_inner().into_bytes();
@@ -70,23 +71,32 @@ fn serve(rt: &impl Abort, alloc: Global, row: &Row<'_>, came: usize, reads: Call
 fn serve_to(
     rt: &impl Abort,
     alloc: Global,
-    source: FakeReader<'_>,
+    source: &mut Watched<FakeReader<'_>>,
     sink: &mut Watched<FakeWriter>,
     row: &Row<'_>,
     count: u32,
 ) -> (End, MemBlocks) {
     assert!(rt; count > 0, "a unit of one block at least");
     let blocks = MemBlocks::new(alloc, count).expect(rt, "memory");
-    let fused = FusedBlocks::inside(blocks, row.fuse.calls, row.fuse.lands);
-    let mut source = Watched::new(source);
+    let (calls, lands) = fuse_of(rt, row);
+    let fused = FusedBlocks::inside(blocks, calls, lands);
     let me = TargetRecord {
         target_name: b"iqn.2000-01.test:array",
         first: &[portal(3260)],
         second: &[portal(3264)],
     };
-    let ended = once(alloc, &mut source, sink, fused, &me);
+    let ended = once(alloc, source, sink, fused, &me);
     let (end, device, _registrations) = ended.expect(rt, row.name);
     (end, device.into_inner())
+}
+
+// How the device fails: after so many calls, more than any session makes unless a row says so; and of how many blocks the run of the
+// first one that fails is written.
+fn fuse_of(rt: &impl Abort, row: &Row<'_>) -> (u64, u32) {
+    match row.said("lands", "") {
+        "" => (read(rt, row.said("fails", "1000000")), 0),
+        lands => (0, read(rt, lands)),
+    }
 }
 
 // What is otherwise than a row says where so many of its bytes came, and the input ended.
@@ -97,10 +107,10 @@ fn differs(row: &Row<'_>, came: usize, end: End, sent: &[u8], kept: bool) -> Opt
     if !kept {
         return Some("the blocks");
     }
-    match row.output.get(..row.at(came).written) {
-        Some(output) if sent == output => None,
-        _ => Some("what it wrote"),
+    if row.output.get(..row.at(came).written) != Some(sent) {
+        return Some("what it wrote");
     }
+    None
 }
 
 // Serves a row with its input whole, in single bytes, and, as it says, cut in two after each byte, and ended there.
@@ -109,60 +119,30 @@ fn run_row(rt: &impl Abort, alloc: Global, row: &Row<'_>) {
     serve(rt, alloc, row, all, WHOLE, BLOCKS);
     serve(rt, alloc, row, all, ONE_BYTE, BLOCKS);
     for place in 0..all {
-        if !row.all_blocks && place > 0 {
+        if !row.has("all-blocks") && place > 0 {
             let reads = Calls {
                 first: place,
                 ..WHOLE
             };
             serve(rt, alloc, row, all, reads, FEW_BLOCKS);
         }
-        if row.ends {
+        if row.has("ends") {
             serve(rt, alloc, row, place, WHOLE, FEW_BLOCKS);
         }
     }
 }
 
-// What only a session over a target of a row's own has lines for.
-const OF_A_TARGET: [&str; 17] = [
-    "answer",
-    "reset",
-    "begin",
-    "lives",
-    "given",
-    "end",
-    "each-place",
-    "pieces",
-    "login",
-    "discovery",
-    "portals",
-    "ExpCmdSN",
-    "StatSN",
-    "MaxRecvDataSegmentLength",
-    "MaxBurstLength",
-    "FirstBurstLength",
-    "ImmediateData",
-];
-
-// Serves the row of these lines.
-fn run_text(rt: &impl Abort, alloc: Global, table: &str, text: &str) {
-    let row = Row::read(rt, alloc, table, text);
-    must(rt, !row.name.is_empty(), table, &"a table has rows");
-    row.has_none_of(rt, &OF_A_TARGET);
-    must(rt, row.asked.is_empty(), row.name, &"asked");
-    run_row(rt, alloc, &row);
+// The lines of a row that is served over a unit.
+fn of_a_unit() -> Words {
+    (
+        &[">", "<", "written", "fails", "lands"],
+        &["all-blocks", "ends"],
+    )
 }
 
-#[test]
-fn sessions_of_one_unit(rt: HostRuntime) {
-    let tables: [Table; 4] = [
-        ("worked examples of a session", examples::rows()),
-        ("what an initiator asks first", first_questions::rows()),
-        ("LUNs", luns::rows()),
-        ("medium commands", medium::rows()),
-    ];
-    for (table, rows) in &tables {
-        for text in rows.split("\n\n") {
-            run_text(&rt, rt.alloc(), table, text);
-        }
+/// Serves each row of a table over a unit, and compares.
+pub fn run(rt: &impl Abort, alloc: Global, table: &str, rows: &str) {
+    for text in rows.split("\n\n") {
+        run_row(rt, alloc, &Row::read(rt, alloc, of_a_unit(), table, text));
     }
 }

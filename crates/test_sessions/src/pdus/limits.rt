@@ -1,19 +1,16 @@
 //! PDUs without data, the longest PDU, and bytes that come one by one.
-use crate::ends::{fail, must};
-use crate::pdus::rows::{Figure, NUMBERS, bytes_of, decoded_otherwise, is_waited_for, put_pdu};
-use crate::run::put;
+use crate::ends::must;
+use crate::pdus::rows::{Figure, NUMBERS, expect_pdu, is_waited_for, put_pdu, spelled};
 use iscsi_coding::decode;
-use iscsi_pdu::{BHS_LENGTH, DataIn, Header, LONGEST_PDU, MAX_DATA_SEGMENT_LENGTH, TargetHeader};
-use std::alloc::Global;
-use std::process::Abort;
+use iscsi_pdu::{BHS_LENGTH, DataIn, Header, LONGEST_PDU, TargetHeader};
 use std::test::*;
 
-// TEST UNIT READY to LUN 0 with the tag 1, CmdSN 1 and ExpStatSN 1.
-const TEST_UNIT_READY: Figure = "01810000 0 0 0 1 0 1 1 0 0 0 0";
+// TEST UNIT READY to LUN 0 with the tag 1, CmdSN 1 and ExpStatSN 1, and the first bytes of another PDU.
+const TEST_UNIT_READY: Figure = "01810000 12*00 00000001 00000000 2*00000001 16*00 2A000000";
 
 #[test]
 fn a_pdu_is_waited_for(rt: HostRuntime) {
-    let bytes = bytes_of(&rt, rt.alloc(), TEST_UNIT_READY, [0x2A, 0, 0, 0]);
+    let bytes = spelled(&rt, rt.alloc(), TEST_UNIT_READY);
     for n in 0..48 {
         let front = bytes.get(..n).expect(&rt, "the front is there");
         must(&rt, is_waited_for(front), "the first bytes", &n);
@@ -32,7 +29,8 @@ fn has_no_data(bytes: &[u8]) -> bool {
 }
 
 // The longest PDU: F, a data segment of 65536 bytes, LUN 0, the tag 3, no Target Transfer Tag, the numbers, DataSN and offset 0.
-const LONGEST: Figure = "25800000 00010000 0 0 3 FFFFFFFF 21222324 31323334 41424344 0 0 0";
+const LONGEST: Figure =
+    "25800000 00010000 8*00 00000003 FFFFFFFF 21222324 31323334 41424344 12*00 65536*5A";
 
 const LAST_DATA_IN: Header = Header::Target(TargetHeader::DataIn(DataIn {
     last: true,
@@ -43,23 +41,13 @@ const LAST_DATA_IN: Header = Header::Target(TargetHeader::DataIn(DataIn {
     offset: 0,
 }));
 
-// Its bytes, of which the last are this data.
-fn longest(rt: &impl Abort, alloc: Global, data: &[u8]) -> Vec<u8> {
-    let mut bytes = bytes_of(rt, alloc, LONGEST, [0; 4]);
-    bytes.truncate(BHS_LENGTH);
-    put(rt, &mut bytes, data);
-    bytes
-}
-
 #[test]
 fn the_longest_pdu(rt: HostRuntime) {
-    let data = vec![in rt.alloc(); 0x5A; MAX_DATA_SEGMENT_LENGTH].expect(&rt, "memory");
-    let mut out = Vec::new(rt.alloc());
-    put_pdu(&rt, &mut out, &LAST_DATA_IN, &data);
-    let want = longest(&rt, rt.alloc(), &data);
+    let want = spelled(&rt, rt.alloc(), LONGEST);
     must(&rt, want.len() == LONGEST_PDU, "the bytes", &want.len());
+    let data = want.get(BHS_LENGTH..).expect(&rt, "the data");
+    let mut out = Vec::new(rt.alloc());
+    put_pdu(&rt, &mut out, &LAST_DATA_IN, data);
     must(&rt, out == want, "encoded", &"other bytes");
-    if let Some(what) = decoded_otherwise(&rt, rt.alloc(), &want, &want) {
-        fail(&rt, "decoded", &what);
-    }
+    expect_pdu(&rt, rt.alloc(), "decoded", &want, &want);
 }

@@ -2,15 +2,16 @@
 use crate::ends::{fail, must};
 use crate::run::put;
 use iscsi_coding::{decode, encode};
-use iscsi_pdu::{BHS_LENGTH, CommandNumbers, Header, MAX_DATA_SEGMENT_LENGTH, Numbers, Pdu};
+use iscsi_pdu::{CommandNumbers, Header, MAX_DATA_SEGMENT_LENGTH, Numbers, Pdu};
 use std::alloc::Global;
 use std::process::Abort;
 use std::test::*;
+use test_connections::bytes_of;
 
-/// A basic header segment as its figure shows it: twelve lines of four bytes, as numbers in hexadecimal.
+/// A PDU as its figure shows it: the lines of four bytes of its header segment and of its data, spelled as in a row.
 pub type Figure = &'static str;
 
-/// The data of each row's PDU.
+/// The data of each row's PDU, which two bytes pad.
 pub const DATA: [u8; 2] = [7, 8];
 
 pub const LUN: [u8; 8] = [1, 2, 3, 4, 5, 6, 7, 8];
@@ -28,16 +29,9 @@ pub const NUMBERS: Numbers = Numbers {
     max_cmd_sn: 0x41424344,
 };
 
-/// The bytes of a figure, and four bytes behind them.
-pub fn bytes_of(rt: &impl Abort, alloc: Global, figure: &str, tail: [u8; 4]) -> Vec<u8> {
-    let mut bytes = Vec::new(alloc);
-    for line in figure.split_ascii_whitespace() {
-        let line = u32::from_str_radix(line, 16).expect(rt, line);
-        put(rt, &mut bytes, &line.to_be_bytes());
-    }
-    must(rt, bytes.len() == BHS_LENGTH, figure, &bytes.len());
-    put(rt, &mut bytes, &tail);
-    bytes
+/// The bytes of a figure.
+pub fn spelled(rt: &impl Abort, alloc: Global, figure: &str) -> Vec<u8> {
+    bytes_of(alloc, &[], figure).expect(rt, figure)
 }
 
 /// Appends a PDU.
@@ -50,13 +44,14 @@ pub fn put_pdu(rt: &impl Abort, out: &mut Vec<u8>, header: &Header, data: &[u8])
     encode(&pdu, out).expect(rt, "memory");
 }
 
-/// Behind another byte, the header with the data is encoded as this figure, the data and two zeros.
-pub fn expect_encoded(rt: &impl Abort, alloc: Global, name: &str, header: &Header, figure: &str) {
+/// Behind another byte, the header with the data is encoded as this figure, and that is decoded as it.
+pub fn check(rt: &impl Abort, alloc: Global, name: &str, header: &Header, figure: &str) {
     let mut out = Vec::new(alloc);
     put(rt, &mut out, &[9]);
     put_pdu(rt, &mut out, header, &DATA);
-    let want = bytes_of(rt, alloc, figure, [7, 8, 0, 0]);
+    let want = spelled(rt, alloc, figure);
     must(rt, stands_behind_9(&out, &want), name, &out);
+    expect_pdu(rt, alloc, name, &want, &want);
 }
 
 // Whether these bytes are 9, and those that are wanted.
@@ -67,30 +62,21 @@ fn stands_behind_9(bytes: &[u8], want: &[u8]) -> bool {
     }
 }
 
-/// These bytes begin with a PDU of 52 bytes, which is encoded as this figure, the data and two zeros. No other PDU is.
-pub fn expect_decoded(rt: &impl Abort, alloc: Global, name: &str, bytes: &[u8], figure: &str) {
-    let want = bytes_of(rt, alloc, figure, [7, 8, 0, 0]);
-    if let Some(what) = decoded_otherwise(rt, alloc, bytes, &want) {
-        fail(rt, name, &what);
-    }
+/// The bytes of this figure are decoded as a PDU that is encoded as that one.
+pub fn expect_decoded(rt: &impl Abort, alloc: Global, name: &str, figure: &str, want: &str) {
+    let bytes = spelled(rt, alloc, figure);
+    expect_pdu(rt, alloc, name, &bytes, &spelled(rt, alloc, want));
 }
 
-/// What is decoded where these bytes do not begin with a PDU that takes as many bytes as are wanted, and is encoded as those.
-pub fn decoded_otherwise(
-    rt: &impl Abort,
-    alloc: Global,
-    bytes: &[u8],
-    want: &[u8],
-) -> Option<&'static str> {
+/// These bytes begin with a PDU that takes as many as are wanted, and is encoded as those. No other PDU is.
+pub fn expect_pdu(rt: &impl Abort, alloc: Global, name: &str, bytes: &[u8], want: &[u8]) {
     match decode(bytes) {
         Ok(Some((pdu, size))) if size == want.len() => {
             let mut out = Vec::new(alloc);
             put_pdu(rt, &mut out, &pdu.header, pdu.data);
-            (out.as_slice() != want).then_some("another PDU")
+            must(rt, out.as_slice() == want, name, &"another PDU");
         }
-        Ok(Some(_)) => Some("another size"),
-        Ok(None) => Some("no whole PDU"),
-        Err(_) => Some("a fault"),
+        _ => fail(rt, name, &"a fault, no whole PDU, or another size"),
     }
 }
 

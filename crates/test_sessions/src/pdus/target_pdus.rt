@@ -1,11 +1,9 @@
 //! Each of a target's PDUs.
-use crate::pdus::rows::{Figure, ISID, LUN, NUMBERS, bytes_of, expect_decoded, expect_encoded};
+use crate::pdus::rows::{Figure, ISID, LUN, NUMBERS, check};
 use iscsi_pdu::{
     DataIn, Header, LoginResponse, LogoutResponse, NopIn, R2t, Reject, ScsiResponse, TargetHeader,
     TaskManagementResponse, TextResponse,
 };
-use std::alloc::Global;
-use std::process::Abort;
 use std::test::*;
 
 /// A name, a header, and its figure.
@@ -21,7 +19,7 @@ fn rows() -> &'static [Row] {
                 transfer_tag: 0x1A1B1C1D,
                 numbers: NUMBERS,
             }),
-            "20800000 2 01020304 05060708 0A0B0C0D 1A1B1C1D 21222324 31323334 41424344 0 0 0",
+            "20800000 00000002 01020304 05060708 0A0B0C0D 1A1B1C1D 21222324 31323334 41424344 12*00 07080000",
         ),
         (
             "a SCSI Response with overflow",
@@ -35,7 +33,7 @@ fn rows() -> &'static [Row] {
                 exp_data_sn: 0x51525354,
                 residual: 0x71727374,
             }),
-            "21840102 2 0 0 0A0B0C0D 0 21222324 31323334 41424344 51525354 0 71727374",
+            "21840102 00000002 8*00 0A0B0C0D 00000000 21222324 31323334 41424344 51525354 00000000 71727374 07080000",
         ),
         (
             "a SCSI Response with underflow",
@@ -49,7 +47,7 @@ fn rows() -> &'static [Row] {
                 exp_data_sn: 0,
                 residual: 256,
             }),
-            "21820000 2 0 0 1 0 21222324 31323334 41424344 0 0 100",
+            "21820000 00000002 8*00 00000001 00000000 21222324 31323334 41424344 8*00 00000100 07080000",
         ),
         (
             "a Task Management Function Response",
@@ -58,7 +56,7 @@ fn rows() -> &'static [Row] {
                 task_tag: 0x0A0B0C0D,
                 numbers: NUMBERS,
             }),
-            "22800500 2 0 0 0A0B0C0D 0 21222324 31323334 41424344 0 0 0",
+            "22800500 00000002 8*00 0A0B0C0D 00000000 21222324 31323334 41424344 12*00 07080000",
         ),
         (
             "a Login Response that goes from stage 1 to 3",
@@ -74,7 +72,7 @@ fn rows() -> &'static [Row] {
                 status_class: 0,
                 status_detail: 0,
             }),
-            "23870000 2 23D01 02030405 0A0B0C0D 0 21222324 31323334 41424344 0 0 0",
+            "23870000 00000002 00023D01 02030405 0A0B0C0D 00000000 21222324 31323334 41424344 12*00 07080000",
         ),
         (
             "a Login Response that refuses",
@@ -90,7 +88,7 @@ fn rows() -> &'static [Row] {
                 status_class: 2,
                 status_detail: 7,
             }),
-            "23400000 2 23D01 02030000 0A0B0C0D 0 21222324 31323334 41424344 02070000 0 0",
+            "23400000 00000002 00023D01 02030000 0A0B0C0D 00000000 21222324 31323334 41424344 02070000 8*00 07080000",
         ),
         (
             "a Text Response",
@@ -99,7 +97,7 @@ fn rows() -> &'static [Row] {
                 transfer_tag: 0x1A1B1C1D,
                 numbers: NUMBERS,
             }),
-            "24800000 2 0 0 0A0B0C0D 1A1B1C1D 21222324 31323334 41424344 0 0 0",
+            "24800000 00000002 8*00 0A0B0C0D 1A1B1C1D 21222324 31323334 41424344 12*00 07080000",
         ),
         (
             "the last Data-In",
@@ -111,7 +109,7 @@ fn rows() -> &'static [Row] {
                 data_sn: 0x51525354,
                 offset: 0x61626364,
             }),
-            "25800000 2 0 0 0A0B0C0D 1A1B1C1D 21222324 31323334 41424344 51525354 61626364 0",
+            "25800000 00000002 8*00 0A0B0C0D 1A1B1C1D 21222324 31323334 41424344 51525354 61626364 00000000 07080000",
         ),
         (
             "a Data-In before the last",
@@ -123,7 +121,7 @@ fn rows() -> &'static [Row] {
                 data_sn: 0,
                 offset: 0,
             }),
-            "25000000 2 0 0 3 FFFFFFFF 21222324 31323334 41424344 0 0 0",
+            "25000000 00000002 8*00 00000003 FFFFFFFF 21222324 31323334 41424344 12*00 07080000",
         ),
         (
             "a Logout Response",
@@ -134,7 +132,7 @@ fn rows() -> &'static [Row] {
                 time_to_wait: 0x6162,
                 time_to_retain: 0x6364,
             }),
-            "26800200 2 0 0 0A0B0C0D 0 21222324 31323334 41424344 0 61626364 0",
+            "26800200 00000002 8*00 0A0B0C0D 00000000 21222324 31323334 41424344 00000000 61626364 00000000 07080000",
         ),
         (
             "an R2T",
@@ -147,7 +145,7 @@ fn rows() -> &'static [Row] {
                 offset: 0x61626364,
                 desired_length: 0x71727374,
             }),
-            "31800000 2 01020304 05060708 0A0B0C0D 1A1B1C1D 21222324 31323334 41424344 51525354 61626364 71727374",
+            "31800000 00000002 01020304 05060708 0A0B0C0D 1A1B1C1D 21222324 31323334 41424344 51525354 61626364 71727374 07080000",
         ),
         (
             "a Reject",
@@ -155,21 +153,14 @@ fn rows() -> &'static [Row] {
                 reason: 9,
                 numbers: NUMBERS,
             }),
-            "3F800900 2 0 0 FFFFFFFF 0 21222324 31323334 41424344 0 0 0",
+            "3F800900 00000002 8*00 FFFFFFFF 00000000 21222324 31323334 41424344 12*00 07080000",
         ),
     ]
 }
 
-fn check(rt: &impl Abort, alloc: Global, (name, header, figure): &Row) {
-    let header = Header::Target(*header);
-    expect_encoded(rt, alloc, name, &header, figure);
-    let bytes = bytes_of(rt, alloc, figure, [7, 8, 0, 0]);
-    expect_decoded(rt, alloc, name, &bytes, figure);
-}
-
 #[test]
 fn each_target_pdu_has_its_bytes(rt: HostRuntime) {
-    for row in rows() {
-        check(&rt, rt.alloc(), row);
+    for (name, header, figure) in rows() {
+        check(&rt, rt.alloc(), name, &Header::Target(*header), figure);
     }
 }
