@@ -107,10 +107,7 @@ impl Reading {
                 self.header = Some(self.bytes.len());
                 put_digits(&mut self.bytes, plain)?;
                 self.next = Next::Part;
-                for word in differing.split_ascii_whitespace() {
-                    self.differ(word)?;
-                }
-                Ok(())
+                self.differ(differing)
             }
             Next::Part => self.part(texts, word),
             Next::Pattern => {
@@ -161,17 +158,21 @@ impl Reading {
         Ok(())
     }
 
-    // Takes what differs from the header segment.
-    fn differ(&mut self, word: &str) -> Result<(), RowError> {
+    // Takes the words of what differs from the header segment.
+    fn differ(&mut self, words: &str) -> Result<(), RowError> {
         let start = self.header.ok_or(RowError::Outside)?;
         let end = start.wrapping_add(48);
         let header = self.bytes.as_mut_slice().get_mut(start..end);
-        change(header.ok_or(RowError::Outside)?, word)
+        let header = header.ok_or(RowError::Outside)?;
+        for word in words.split_ascii_whitespace() {
+            change(header, word)?;
+        }
+        Ok(())
     }
 }
 
-// The text of this name.
-fn text_named<'a>(texts: Texts<'a>, word: &str) -> Option<&'a str> {
+/// The text of this name.
+pub(crate) fn text_named<'a>(texts: Texts<'a>, word: &str) -> Option<&'a str> {
     for (name, text) in texts {
         if *name == word {
             return Some(*text);
