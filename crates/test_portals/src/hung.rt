@@ -102,10 +102,9 @@ fn a_device_that_hangs_has_failed(rt: HostRuntime) {
     let machine = Machine::of(&rt);
     let script = Script::new("a device that hangs has failed", script());
     let disk = Arc::new(alloc, Latch::open(rt.clone().expect(&rt, "memory"))).expect(&rt, "memory");
-    let begun = done(&rt, machine.begin(&script));
     let units = done(&rt, both(&rt, alloc, &disk));
     let _ended = done(
         &rt,
-        machine.perform::<Brand, _, _, _>(begun, units, &disk, &script),
+        machine.perform::<Brand, _, _, _>(units, &disk, &script),
     );
 }

@@ -25,7 +25,6 @@ pub enum Flushes {
 }
 
 /// A gate at whose latches commands wait before their unit, and flushes behind it.
-#[derive(Drop)]
 pub struct Doors<R: Wait + Drop> {
     rt: R,
     pub commands: Latch<R>,
@@ -33,6 +32,19 @@ pub struct Doors<R: Wait + Drop> {
     come_to: Mutex<Flushes>,
     // The place of the unit of the last flush that was asked for, or none.
     asked_for: AtomicUsize,
+}
+
+// It is never taken apart.
+impl<R: Wait + Drop> Drop for Doors<R> {
+    fn drop(self) {
+        let Self {
+            rt: _,
+            commands: _,
+            flushes: _,
+            come_to: _,
+            asked_for: _,
+        } = self;
+    }
 }
 
 impl<R: Wait + Drop> Doors<R> {

@@ -1,7 +1,6 @@
 //! Lines that stand for several: the forms of these, which a line fills.
 use std::alloc::Global;
-use std::test::Fail;
-use test_connections::filled;
+use test_connections::{RowError, filled};
 
 // A host logs in by a controller, or is refused: how it asks, and what it is answered.
 const COMES: &str = "[0] at [1]
@@ -59,7 +58,7 @@ fn form_of(verb: &str) -> &'static str {
 }
 
 /// The lines for which one line stands.
-pub fn expanded(alloc: Global, line: &str) -> Result<String, Fail> {
+pub fn expanded(alloc: Global, line: &str) -> Result<String, RowError> {
     let (who, words) = split(line);
     let (verb, rest) = split(words);
     let form = form_of(verb);
@@ -67,7 +66,7 @@ pub fn expanded(alloc: Global, line: &str) -> Result<String, Fail> {
         return Ok(String::from_str(alloc, line)?);
     }
     let parts = format!(in alloc; "{who};{rest}")?.replace(alloc, " / ", ";")?;
-    Ok(filled(alloc, form, parts.as_str().trim_end_matches(';'))?)
+    filled(alloc, form, parts.as_str().trim_end_matches(';'))
 }
 
 /// A word, and what stands behind it.

@@ -4,13 +4,13 @@
 //! what is behind them.
 #![tactic(auto)]
 
-mod behind;
 mod doors;
 mod forms;
 mod no_room;
+mod prompter;
 mod scene;
 mod serving;
 mod stage;
 mod units;
 
-pub use serving::{Begun, Machine, Script, Story};
+pub use serving::{Machine, Script, Story};

@@ -1,10 +1,12 @@
 //! What a script meets: the portals to which its hosts connect, and what is behind them. `Stage` sees no more of an array, so
 //! that its functions know neither the units nor their gate, and cost little to prove.
-use crate::behind::Console;
 use crate::doors::{Doors, Flushes};
+use array_administration::{Operations, console};
+use live_sessions::Table;
+use portal::Socket;
 use std::alloc::Global;
-use std::net::{Net, SocketAddrV4, TcpListener, TcpStream};
-use std::sync::Wait;
+use std::net::{Ipv4Addr, Net, SocketAddrV4, TcpListener, TcpStream};
+use std::sync::{Mutex, Wait};
 use std::test::Fail;
 use std::thread;
 use std::time::{Clock, Duration};
@@ -40,49 +42,33 @@ pub trait Scene {
     fn asked_for(&self) -> Option<usize>;
 
     /// How many entries the row of a unit tells of, where there is one.
-    fn entries(&self, unit: u8) -> Option<u64>;
+    fn entries(&mut self, unit: u8) -> Option<u64>;
 
     /// What the lines of the program's console are answered. Behind them the desks are closed.
-    fn answers(&self, alloc: Global, lines: &str) -> Result<String, Fail>;
+    fn answers(&mut self, alloc: Global, lines: &str) -> Result<String, Fail>;
 
     /// Ends the session with this TSIH, as an administrator does.
     fn end(&self, tsih: u16);
 
     /// Closes the desks.
-    fn close(&self);
+    fn close(&mut self);
 
     /// Lets so many seconds pass.
     fn pass(&self, seconds: u64);
 }
 
-/// The portals of an array with this gate, whose devices hang at this latch, and whose console this is.
+/// The portals of an array at these ports, with this gate and these sessions, whose devices hang at this latch.
 #[derive(Drop)]
-pub struct Portals<'a, R: Wait + Drop, C: Console> {
-    rt: &'a R,
-    at: [SocketAddrV4; 2],
-    gate: &'a Doors<R>,
-    disk: &'a Latch<R>,
-    console: &'a C,
+pub struct Portals<'a, R: Wait + Drop, A: Operations> {
+    pub rt: &'a R,
+    pub ports: [u16; 2],
+    pub gate: &'a Doors<R>,
+    pub disk: &'a Latch<R>,
+    pub sessions: &'a Mutex<Table<Socket>>,
+    pub array: &'a mut A,
 }
 
-impl<'a, R: Wait + Drop, C: Console> Portals<'a, R, C> {
-    /// Those that listen there.
-    pub fn new(
-        rt: &'a R,
-        at: [SocketAddrV4; 2],
-        gate: &'a Doors<R>,
-        disk: &'a Latch<R>,
-        console: &'a C,
-    ) -> Portals<'a, R, C> {
-        Portals {
-            rt,
-            at,
-            gate,
-            disk,
-            console,
-        }
-    }
-
+impl<R: Wait + Drop, A: Operations> Portals<'_, R, A> {
     fn latch(&self, place: Place) -> &Latch<R> {
         match place {
             Place::Commands => &self.gate.commands,
@@ -92,16 +78,16 @@ impl<'a, R: Wait + Drop, C: Console> Portals<'a, R, C> {
     }
 }
 
-impl<R: Wait + Clock + Net<Listener = TcpListener, Stream = TcpStream> + Drop, C: Console> Scene
-    for Portals<'_, R, C> {
+impl<R: Wait + Clock + Net<Listener = TcpListener, Stream = TcpStream> + Drop, A: Operations> Scene
+    for Portals<'_, R, A> {
     fn ports(&self) -> [u16; 2] {
-        let [first, second] = self.at;
-        [first.port(), second.port()]
+        self.ports
     }
 
     fn connect(&self, controller: usize) -> Result<Host, Fail> {
-        match self.at.get(controller.wrapping_sub(1)) {
-            Some(portal) => Host::connect(self.rt, *portal),
+        let here = Ipv4Addr::new(127, 0, 0, 1);
+        match self.ports.get(controller.wrapping_sub(1)) {
+            Some(port) => Host::connect(self.rt, SocketAddrV4::new(here, *port)),
             None => Err("a controller".into()),
         }
     }
@@ -122,20 +108,25 @@ impl<R: Wait + Clock + Net<Listener = TcpListener, Stream = TcpStream> + Drop, C
         self.gate.asked_for()
     }
 
-    fn entries(&self, unit: u8) -> Option<u64> {
-        self.console.entries(unit)
+    fn entries(&mut self, unit: u8) -> Option<u64> {
+        match self.array.status(unit) {
+            Some(row) => Some(row.entries),
+            None => None,
+        }
     }
 
-    fn answers(&self, alloc: Global, lines: &str) -> Result<String, Fail> {
-        self.console.answers(alloc, lines)
+    fn answers(&mut self, alloc: Global, lines: &str) -> Result<String, Fail> {
+        let mut written = Vec::new(alloc);
+        let _ = console(alloc, lines.as_bytes(), &mut written, self.array);
+        Ok(String::from_utf8(written)?)
     }
 
     fn end(&self, tsih: u16) {
-        self.console.end(tsih);
+        let _ = self.sessions.lock(self.rt).shut(tsih);
     }
 
-    fn close(&self) {
-        self.console.close();
+    fn close(&mut self) {
+        self.array.close();
     }
 
     fn pass(&self, seconds: u64) {

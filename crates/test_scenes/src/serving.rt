@@ -2,12 +2,12 @@
 ghost use Rattle.std.specs.Prelude.{◌≤◌, length};
 ghost use Rattle.unit_history.specs.Naming.{IsNamed};
 
-use crate::behind::Behind;
 use crate::doors::Doors;
 use crate::no_room::NoRoom;
 use crate::scene::{Portals, Scene};
 use crate::stage::Stage;
 use crate::units::{Faults, in_memory, opened};
+use array_operations::Operated;
 use array_units::Units;
 use block_file::{Blocks, FusedBlocks, FusedOpener, KeepOpener, Opener};
 use event_log::Log;
@@ -146,13 +146,13 @@ fn serve<
     group: Group,
     stacks: NoRoom,
 ) -> Result<Served, Fail> {
-    let _lanes = start_lanes::<N, B, F, O, Doors<R>, R, SmallStacks>(
+    let stop = Stop::of(&listener)?;
+    let _ = start_lanes::<N, B, F, O, Doors<R>, R, SmallStacks>(
         rt,
         server,
         group,
         &mut SmallStacks,
     )?;
-    let stop = Stop::of(&listener)?;
     let worker = listen(rt, alloc, listener, server, group, stacks)?;
     Ok(Served { stop, worker })
 }
@@ -165,16 +165,11 @@ fn end<R: Threads>(rt: &R, served: Served) -> Result<(), Fail> {
     Ok(())
 }
 
-// Where the hosts find a portal.
-fn found_at(portal: SocketAddrV4) -> SocketAddrV4 {
-    SocketAddrV4::new(Ipv4Addr::new(127, 0, 0, 1), portal.port())
-}
-
 // Hosts perform a script: these, whose sessions may still be open. Where a line fails, it is told which.
 fn performed<R: Eprint, S: Scene>(
     rt: &R,
     alloc: Global,
-    scene: &S,
+    scene: &mut S,
     script: &Script<'_>,
 ) -> Result<Vec<Host>, Fail> {
     let mut stage = Stage::new(alloc, scene, script.piece)?;
@@ -206,9 +201,9 @@ fn told_at(alloc: Global, first: SocketAddrV4, second: SocketAddrV4) -> Result<T
     })
 }
 
-/// What there is of an array before its units: its portals, what it tells, and its gate, at which nothing hangs yet.
+/// What there is of an array beside its units: its portals, what it tells, and its gate, at which nothing hangs yet.
 #[derive(Drop)]
-pub struct Begun<R: Wait + Drop> {
+struct Begun<R: Wait + Drop> {
     first: Listening,
     second: Listening,
     told: Told,
@@ -251,8 +246,8 @@ where
 
 // A gate that is open.
 fn gate<R: Wait + Clone + Drop>(rt: &R) -> Result<Doors<R>, Fail> {
-    let (commands, flushes) = (Latch::open(rt.clone()?), Latch::open(rt.clone()?));
-    Ok(Doors::new(rt.clone()?, commands, flushes))
+    let (mine, first, second) = (rt.clone()?, rt.clone()?, rt.clone()?);
+    Ok(Doors::new(mine, Latch::open(first), Latch::open(second)))
 }
 
 // Hosts perform a script before these portals: the hosts.
@@ -266,17 +261,25 @@ fn performed_before<
     rt: &R,
     alloc: Global,
     server: &Server<Controllers<B, F, O, N>, Doors<R>>,
-    portals: [SocketAddrV4; 2],
+    ports: [u16; 2],
     disk: &Latch<R>,
     script: &Script<'_>,
 ) -> Result<Vec<Host>, Fail> {
-    let behind = Behind {
+    let log = Log::off();
+    let mut array = Operated {
         rt,
         controllers: &server.device.units,
-        sessions: &server.device.sessions,
+        log: &log,
     };
-    let scene = Portals::new(rt, portals, &server.device.gate, disk, &behind);
-    performed(rt, alloc, &scene, script)
+    let mut scene = Portals {
+        rt,
+        ports,
+        gate: &server.device.gate,
+        disk,
+        sessions: &server.device.sessions,
+        array: &mut array,
+    };
+    performed(rt, alloc, &mut scene, script)
 }
 
 // Both portals are served while hosts perform a script: the ports, and the hosts.
@@ -308,7 +311,6 @@ fn serve_both<
         refused: script.refused,
     };
     let ports = [first.at.port(), second.at.port()];
-    let portals = [found_at(first.at), found_at(second.at)];
     let Listening {
         listener: first,
         ..
@@ -319,7 +321,7 @@ fn serve_both<
     } = second;
     let first = serve::<N, B, F, O, R>(rt, alloc, first, server, Group::One, stacks)?;
     let second = serve::<N, B, F, O, R>(rt, alloc, second, server, Group::Two, stacks)?;
-    let hosts = performed_before(rt, alloc, server, portals, disk, script)?;
+    let hosts = performed_before(rt, alloc, server, ports, disk, script)?;
     end(rt, first)?;
     end(rt, second)?;
     Ok((ports, hosts))
@@ -365,14 +367,15 @@ impl<
         + Sync
         + 'static,
 > Machine<'_, R> {
-    /// Begins an array for a script.
-    pub fn begin(&self, script: &Script<'_>) -> Result<Begun<R>, Fail> {
+    // Begins an array for a script.
+    fn begin(&self, script: &Script<'_>) -> Result<Begun<R>, Fail> {
         let Machine { rt, alloc, .. } = *self;
+        let (gate, log) = (gate(rt)?, self.log()?);
         let (first, second) = bind_both(rt, script)?;
         Ok(Begun {
             told: told_at(alloc, first.at, second.at)?,
-            log: self.log()?,
-            gate: gate(rt)?,
+            log,
+            gate,
             first,
             second,
         })
@@ -387,7 +390,6 @@ impl<
         O: Opener<B> + Send + Sync + 'static,
     >(
         &self,
-        begun: Begun<R>,
         new: Vec<NewUnit<B, F, O>>,
         disk: &Latch<R>,
         script: &Script<'_>,
@@ -402,7 +404,7 @@ impl<
             told,
             log,
             gate,
-        } = begun;
+        } = self.begin(script)?;
         let server = server_of::<N, B, F, O, R>(rt, alloc, new, told, log, gate)?;
         let ended = serve_both::<N, B, F, O, R>(rt, alloc, &server, first, second, disk, script);
         if ended.is_ok() {
@@ -422,10 +424,9 @@ impl<
     /// Hosts perform a script before units in memory.
     pub fn run(&self, script: &Script<'_>) -> Result<(), Fail> {
         let Machine { rt, alloc, .. } = *self;
-        let begun = self.begin(script)?;
         let disk = Arc::new(alloc, Latch::open(rt.clone()?))?;
         let units = in_memory(alloc, &disk, script.is_alone, script.opens)?;
-        let _ended = self.perform::<Brand, _, _, _>(begun, units, &disk, script)?;
+        let _ended = self.perform::<Brand, _, _, _>(units, &disk, script)?;
         Ok(())
     }
 
@@ -447,13 +448,12 @@ impl<
         faults: Faults,
         script: &Script<'_>,
     ) -> Result<([u16; 2], Vec<Host>), Fail> {
-        let begun = self.begin(script)?;
-        let disk = Latch::open(self.rt.clone()?);
         let blocks = FusedBlocks::inside(blocks, faults.passed, faults.landed);
         let file = FusedBlocks::new(file, faults.registration_calls());
         let opener = FusedOpener::new(KeepOpener, faults.opened);
         let units = opened(self.alloc, blocks, opener, file)?;
-        self.perform::<Brand, _, _, _>(begun, units, &disk, script)
+        let disk = Latch::open(self.rt.clone()?);
+        self.perform::<Brand, _, _, _>(units, &disk, script)
     }
 
     /// Runs a story over the first devices, and behind the restart over the others of the same files.
@@ -465,7 +465,7 @@ impl<
         blocks: B,
         file: F,
     ) -> Result<(), Fail> {
-        let (before, after) = story.scripts.split_once("\n\n").ok_or("a story")?;
+        let (before, after) = story.scripts.split_once("\n\n").unwrap_or(("", ""));
         let before = Script::new(story.name, before);
         let faults = Faults::of(story.fault);
         let (ports, hosts) = self.serve_failing(first, first_file, faults, &before)?;
