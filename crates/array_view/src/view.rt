@@ -29,7 +29,6 @@ pub struct Commands {
 }
 
 /// A unit by a controller.
-#[derive(Drop)]
 pub struct PathView {
     pub controller: u64,
     /// Its asymmetric access state (SPC-4, 5.15.2.2), as a number and in words.
@@ -38,8 +37,18 @@ pub struct PathView {
     pub commands: Commands,
 }
 
+impl Drop for PathView {
+    fn drop(self) {
+        let Self {
+            controller: _,
+            state: _,
+            state_words: _,
+            commands: _,
+        } = self;
+    }
+}
+
 /// A registration, as READ FULL STATUS tells it (SPC-4, 6.15.5).
-#[derive(Drop)]
 pub struct Registration {
     /// The InitiatorName; and as the log spells names.
     pub initiator: String,
@@ -52,6 +61,20 @@ pub struct Registration {
     pub is_holder: bool,
     /// The type of the reservation that it holds (SPC-4, table 56), or 0.
     pub reservation_type: u64,
+}
+
+impl Drop for Registration {
+    fn drop(self) {
+        let Self {
+            initiator: _,
+            spelled: _,
+            isid: _,
+            key: _,
+            controller: _,
+            is_holder: _,
+            reservation_type: _,
+        } = self;
+    }
 }
 
 /// Calls of one kind on a file of a unit that failed. Times are seconds after the beginning of 1970.
@@ -75,7 +98,6 @@ pub struct FailureView {
 }
 
 /// A unit.
-#[derive(Drop)]
 pub struct UnitView {
     pub unit: u64,
     /// The controller that owns it, 1 or 2.
@@ -122,8 +144,40 @@ pub struct UnitView {
     pub paths: Vec<PathView>,
 }
 
+impl Drop for UnitView {
+    fn drop(self) {
+        let Self {
+            unit: _,
+            owner: _,
+            generation: _,
+            registrants: _,
+            reservation_type: _,
+            registrations: _,
+            entries: _,
+            naa: _,
+            serial: _,
+            wwid: _,
+            disk: _,
+            registration_file: _,
+            blocks: _,
+            health: _,
+            troubles: _,
+            failures: _,
+            disk_failures: _,
+            registration_failures: _,
+            hung: _,
+            oldest_command_micros: _,
+            unflushed_bytes: _,
+            unflushed_bound_bytes: _,
+            waited_writes: _,
+            waited_micros: _,
+            own_flushes: _,
+            paths: _,
+        } = self;
+    }
+}
+
 /// A session.
-#[derive(Drop)]
 pub struct SessionView {
     /// The InitiatorName; and as the log spells names.
     pub initiator: String,
@@ -145,8 +199,27 @@ pub struct SessionView {
     pub commands: u64,
 }
 
+impl Drop for SessionView {
+    fn drop(self) {
+        let Self {
+            initiator: _,
+            spelled: _,
+            isid: _,
+            tsih: _,
+            kind: _,
+            is_discovery: _,
+            controller: _,
+            portal: _,
+            peer: _,
+            since: _,
+            last_command: _,
+            idle_micros: _,
+            commands: _,
+        } = self;
+    }
+}
+
 /// A controller.
-#[derive(Drop)]
 pub struct Controller {
     pub controller: u64,
     /// No unit is served by it.
@@ -157,8 +230,19 @@ pub struct Controller {
     pub discoveries: u64,
 }
 
+impl Drop for Controller {
+    fn drop(self) {
+        let Self {
+            controller: _,
+            is_down: _,
+            portals: _,
+            sessions: _,
+            discoveries: _,
+        } = self;
+    }
+}
+
 /// An array.
-#[derive(Drop)]
 pub struct ArrayView {
     pub version: &'static str,
     pub target: String,
@@ -176,6 +260,26 @@ pub struct ArrayView {
     /// What is wrong, a sentence each; and what is served, but by less than there is.
     pub problems: Vec<String>,
     pub degraded: Vec<String>,
+}
+
+impl Drop for ArrayView {
+    fn drop(self) {
+        let Self {
+            version: _,
+            target: _,
+            array: _,
+            since: _,
+            uptime_micros: _,
+            controllers: _,
+            units: _,
+            sessions: _,
+            logins: _,
+            refused_logins: _,
+            bounds_micros: _,
+            problems: _,
+            degraded: _,
+        } = self;
+    }
 }
 
 impl PathView {

@@ -29,7 +29,6 @@ struct Shown {
 }
 
 // What a session's worker and readers share.
-#[derive(Drop)]
 struct Meter {
     number: u64,
     who: Visit,
@@ -39,6 +38,18 @@ struct Meter {
     // When its last command was answered, and at which unit, likewise; 0 before the first one.
     answered: AtomicU64,
     shown: Mutex<Shown>,
+}
+
+impl Drop for Meter {
+    fn drop(self) {
+        let Self {
+            number: _,
+            who: _,
+            serving: _,
+            answered: _,
+            shown: _,
+        } = self;
+    }
 }
 
 // What a session's worker has counted at a unit.
@@ -52,7 +63,6 @@ struct Sheet {
 }
 
 /// What a session's worker counts by. Commands that came together and answers that leave together share a look at the clock.
-#[derive(Drop)]
 pub struct Hand {
     meter: Arc<Meter, Global>,
     ticks: Arc<AtomicU64, Global>,
@@ -61,6 +71,19 @@ pub struct Hand {
     is_waiting: bool,
     // When bytes came last, in microseconds of the clock that never goes back.
     came: u64,
+}
+
+impl Drop for Hand {
+    fn drop(self) {
+        let Self {
+            meter: _,
+            ticks: _,
+            units: _,
+            last: _,
+            is_waiting: _,
+            came: _,
+        } = self;
+    }
 }
 
 // All that live, and what was counted of those that have ended, at each unit by each controller.
@@ -74,7 +97,6 @@ struct Book {
 }
 
 /// What is counted of an array.
-#[derive(Drop)]
 pub struct Meters {
     units: usize,
     book: Mutex<Book>,
@@ -86,6 +108,19 @@ pub struct Meters {
     // What the clock said when it was looked at last, in microseconds of the one that never goes back: several times a second, so that
     // a command that begins, or a call that fails, has a time and no look of its own.
     ticks: Arc<AtomicU64, Global>,
+}
+
+impl Drop for Meters {
+    fn drop(self) {
+        let Self {
+            units: _,
+            book: _,
+            happened: _,
+            quits: _,
+            stops: _,
+            ticks: _,
+        } = self;
+    }
 }
 
 /// What was seen of a session.
